@@ -307,9 +307,43 @@ def many_sets(size):
     return Question(schema({it: set_of(TEXT) for it in names}), old, "implies", True, smt, new)
 
 
+# ---- enumerated entity types
+
+
+def written_set(texts):
+    return f"(set.insert {' '.join(chr(34) + it + chr(34) for it in texts)} (as set.empty (Set String)))"
+
+
+def of_roles(size, attributes, conditions, holds, smt, attribute):
+    """Whether a hundred conditions a policy always allow, where there are so many roles."""
+    roles = [f"r{it}" for it in range(size)]
+    types = {"Role": {"enum": roles}, "User": {"shape": record_of(attributes)}, "Doc": {}}
+    policies = permits(" || ".join(conditions[first:first + 100]) for first in range(0, len(conditions), 100))
+    return Question(seen_by("User", "Doc", types), policies, "always-allows", holds, script(attribute, *smt))
+
+
+def choices(size):
+    """Each of the roles that there are is allowed."""
+    smt = [f"(assert (set.member role {written_set(f'r{it}' for it in range(size))}))\n", f"(assert (not {smt_or(f'(= role {chr(34)}r{it}{chr(34)})' for it in range(size))}))\n"]
+    return of_roles(size, {"role": entity("Role")}, [f'principal.role == Role::"r{it}"' for it in range(size)], True, smt, constants(["role"], "String"))
+
+
+def missing_choices(size):
+    """Each of the roles that there are is allowed, but one."""
+    smt = [f"(assert (set.member role {written_set(f'r{it}' for it in range(size))}))\n", f"(assert (not {smt_or(f'(= role {chr(34)}r{it}{chr(34)})' for it in range(size - 1))}))\n"]
+    return of_roles(size, {"role": entity("Role")}, [f'principal.role == Role::"r{it}"' for it in range(size - 1)], False, smt, constants(["role"], "String"))
+
+
+def sets_of_choices(size):
+    """A set of roles is empty, or has one of those that there are."""
+    smt = [f"(assert (set.subset roles {written_set(f'r{it}' for it in range(size))}))\n", f"(assert (not {smt_or(f'(set.member {chr(34)}r{it}{chr(34)} roles)' for it in range(size))}))\n(assert (not (= roles (as set.empty (Set String)))))\n"]
+    return of_roles(size, {"roles": set_of(entity("Role"))}, [f'principal.roles.contains(Role::"r{it}")' for it in range(size)] + ["principal.roles.isEmpty()"], True, smt, constants(["roles"], "(Set String)"))
+
+
 FAMILIES = [(refactoring, (60, 120, 240, 480)), (pigeons, (5, 6, 7, 8)), (random_clauses, (60, 80, 100, 120, 140)), (environments, (1, 10, 100, 1000)), (entities, (40, 80, 160, 320)),
             (groups, (10, 20, 40, 80)), (sets, (10, 20, 40, 80)), (strings, (80, 320, 1280, 5120)), (patterns, (4, 8, 16, 32)), (conditions, (20, 40, 80, 160)), (products, (1, 2, 5, 10)),
-            (bosses, (4, 8, 12, 16)), (tags, (4, 8, 12, 16)), (listed_groups, (4, 8, 12, 16)), (managers, (4, 8, 12, 16)), (grants, (4, 8, 12, 16)), (named_tags, (2, 4, 8)), (profiles, (4, 8, 16)), (many_sets, (10, 20, 30))]
+            (bosses, (4, 8, 12, 16)), (tags, (4, 8, 12, 16)), (listed_groups, (4, 8, 12, 16)), (managers, (4, 8, 12, 16)), (grants, (4, 8, 12, 16)), (named_tags, (2, 4, 8)), (profiles, (4, 8, 16)), (many_sets, (10, 20, 30)),
+            (choices, (2, 10, 100, 1000)), (missing_choices, (2, 10, 100, 1000)), (sets_of_choices, (2, 10, 100))]
 
 
 GROWTH = [(refactoring, (60, 120, 240, 480, 960, 1920)), (entities, (40, 80, 160, 320)), (groups, (10, 20, 40, 80)), (sets, (10, 20, 40, 80)), (strings, (80, 160, 320, 640, 1280, 2560, 5120)),

@@ -27,7 +27,7 @@ EXAMPLES = TOP / "examples"
 EXPECTED = FRONT / "tests" / "expected"
 RECORDED = FRONT / "tests" / "recorded"
 SCRIPTED = FRONT / "tests" / "scripted.py"
-SETS = ("codeforge", "rolelabels", "taxdesk", "teamtodo")
+SETS = ("codeforge", "newsroom", "rolelabels", "taxdesk", "teamtodo")
 BLOCK = re.compile(r"^```(\w+) ([\w.-]+)\n(.*?)^```", re.S | re.M)
 
 

@@ -153,9 +153,8 @@ class Texts(unittest.TestCase):
             (14, "Malformed"),
             (17, "BadWorld"),
         ):
-            self.assertTrue(all(meanings[status, name]), name)
-        self.assertEqual(
-            meanings[13, "NotBoolean"][0], "a condition, or an operand of `&&`, `||`, `!`, `if`, isn't Boolean"
-        )
+            self.assertTrue(all(faults.meaning_of(status, name)), name)
+        meaning, _ = faults.meaning_of(13, "NotBoolean")
+        self.assertEqual(meaning, "a condition, or an operand of `&&`, `||`, `!`, `if`, isn't Boolean")
         for status in (20, 21, 22, 30):
             self.assertTrue(meanings[status, ""][0])

@@ -17,6 +17,10 @@ FAULTS = {
 SCHEMAS = {
     "a member too many": '{"": {"entityTypes": {"U": {"shape": '
     '{"type": "Record", "attributes": {}, "additionalAttributes": true}}}}}',
+    "a choice twice": '{"": {"entityTypes": {"Role": {"enum": [\n  "reader", "admin",\n  "reader"]}}}}',
+    "no choices": '{"": {"entityTypes": {"Role": {"enum": []}}}}',
+    "a member beside choices": '{"": {"entityTypes": {"Role": {"enum": ["admin"], "memberOfTypes": ["Role"]}}}}',
+    "a list that is none": '{"": {"entityTypes": {"Role": {"memberOfTypes": "Role"}}}}',
     "an unknown group": '{"": {\n  "entityTypes": {"User": {"memberOfTypes": ["Team"]}}}}',
     "no JSON": '{"": \n  {"entityTypes": {} "actions": {}}}',
     "a cycle": '{"": {"commonTypes": {"A": {"type": "A"}}}}',

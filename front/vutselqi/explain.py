@@ -56,7 +56,7 @@ def fault_lines(replayed: Replayed) -> list[str]:
     fault = replayed.replay.fault
     what, _, uid = fault.partition(" ")
     reasons = {
-        "request": "its request is of no kind that the schema lists, or has another context",
+        "request": "its request is of no kind that the schema lists, names no choice, or has another context",
         "entity": f"entity {uid} isn't as the schema declares it",
         "missing": f"{uid} isn't stored",
     }

@@ -12,7 +12,7 @@ from vutselqi.escapes import unescaped
 from vutselqi.inputs import Input
 from vutselqi.lines import KIND
 from vutselqi.places import Place, at_byte, at_character
-from vutselqi.pointers import offset_of
+from vutselqi.pointers import offset_of, steps_of
 from vutselqi.program import Answer
 from vutselqi.trouble import Trouble
 
@@ -30,19 +30,38 @@ ROLES = {
 
 
 @lru_cache(maxsize=None)
-def meanings() -> dict[tuple[int, str], tuple[str, str]]:
-    """By status and name of a fault, '' for the status itself: what it means and what to do, from the page of codes."""
-    found, status = {}, 0
+def meanings() -> dict[tuple[int, str], list[tuple[str, str]]]:
+    """By status and name of a fault, '' for the status itself: what it means and what to do, from the page of codes,
+    once for each row there that has the name."""
+    found: dict[tuple[int, str], list[tuple[str, str]]] = {}
+    status = 0
     for line in codes_page().splitlines():
         if line.startswith("## "):
             status = int((re.match(r"## (\d+)", line) or [0, 0])[1])
         row, bullet = ROW.fullmatch(line), BULLET.match(line)
         if row:
             cells = [cell.replace(r"\|", "|").strip() for cell in row["cells"].split(" | ")]
-            found[status, row["name"]] = (cells[0], cells[-1])
+            found.setdefault((status, row["name"]), []).append((cells[0], cells[-1]))
         elif bullet:
-            found[int(bullet["code"] or bullet["status"]), ""] = (bullet["text"].rstrip("."), "")
+            found[int(bullet["code"] or bullet["status"]), ""] = [(bullet["text"].rstrip("."), "")]
     return found
+
+
+def meaning_of(status: int, name: str = "", number: int = 0) -> tuple[str, str]:
+    """What the page says in its row of this number on a fault, or else in its first."""
+    rows = meanings().get((status, name)) or [("", "docs/CODES.md has each code")]
+    return rows[number if number < len(rows) else 0]
+
+
+def row_number(name: str, pointer: str, schema: str) -> int:
+    """Which row of the page a fault in a schema is: of enumerated types the page has a row on their list, one on an
+    item of it, and one on members beside it."""
+    steps = steps_of(pointer)
+    if name != "BadShape" or len(steps) < 4 or steps[1] != "entityTypes":
+        return 0
+    if offset_of(schema, "/".join([*pointer.split("/")[:4], "enum"])) is None:
+        return 0
+    return 3 if steps[3] != "enum" else 1 if len(steps) == 4 else 2
 
 
 def codes_page() -> str:
@@ -80,17 +99,17 @@ def refusal(answer: Answer, inputs: dict[str, Input]) -> Trouble:
 
 def unspoken(answer: Answer) -> Trouble:
     """A status without a line of its own."""
-    meaning = meanings().get((answer.status, ""))
+    meaning, _ = meaning_of(answer.status)
     if answer.status in (21, 30) and meaning:
-        return Trouble(f"the program ended with status {answer.status}: {meaning[0]}", line=answer.command)
+        return Trouble(f"the program ended with status {answer.status}: {meaning}", line=answer.command)
     if answer.status in (126, 127):
         return Trouble("the program couldn't be run", line=answer.command)
     return Trouble(f"the program ended with status {answer.status} and no line that says why", line=answer.command)
 
 
-def explained(status: int, name: str) -> tuple[str, str]:
-    """A fault with what it means, and what to do about it."""
-    meaning, advice = meanings().get((status, name), ("", "docs/CODES.md has each code"))
+def explained(status: int, name: str, number: int = 0) -> tuple[str, str]:
+    """A fault with what it means, and what to do about it, by the page's row of this number on it."""
+    meaning, advice = meaning_of(status, name, number)
     return (f"{name}: {meaning}" if meaning else name), advice
 
 
@@ -114,7 +133,7 @@ def of_policies(status: int, file: Input, fault: str, line: str) -> Trouble:
 def of_json(status: int, file: Input, fault: str, line: str) -> Trouble:
     """A fault in a schema or a world, at a place that a JSON pointer leads to, or else of a type or an action."""
     name, _, where = fault.partition(" at ")
-    sentence, advice = explained(status, name)
+    sentence, advice = explained(status, name, row_number(name, unescaped(where), file.text))
     if name == "NotJson":
         return in_file(file, json_stop(file), sentence, advice, line)
     offset = offset_of(file.text, unescaped(where)) if where.startswith("/") or fault.endswith(" at ") else None
@@ -143,7 +162,7 @@ def of_file(status: int, word: str, file: Optional[Input], line: str) -> Trouble
     role = ROLES.get(word, word)
     if status == 22:
         name = f"{file.name} ({role})" if file else role
-        return Trouble(f"{name} is too long: {meanings().get((22, ''), ('', ''))[0]}", line=line)
+        return Trouble(f"{name} is too long: {meaning_of(22)[0]}", line=line)
     name = f"{role}, {file.name}," if file else role
     reason = f": {file.fault}" if file and file.fault else ""
     return Trouble(f"{name} couldn't be read{reason}", advice="check that the file is there and readable", line=line)

@@ -156,7 +156,7 @@ module _ (d : Declarations) (env : Env) (goal : Tree) (xs ys : List Node) (ns ms
   followed x y p q = let r = found x p in followed_at r.0 y r.1 (subst (λ (t : Tree). Has (follow d t) y) (sym r.2) q)
 
   met : (p q : Role) (z : Tree) → ss p → ss q → Has (meet p q) z → Has (stood ys (put_new ns ms)) z
-  met p q z a b m = ⊎_elim (λ o. kept z (c.met p q z o.0 o.1 m)) (put_met z) (takes.whole p q z a b m)
+  met p q z a b m = ⊎_elim (λ o. kept z (c.met o.0 o.1 z o.2 o.3 o.4)) (put_met z) (takes.whole p q z a b m)
 
   pub closing_step : IsClosing d env goal ys (put_new ns ms) ss (i + 1)
   closing_step = record {

@@ -1,5 +1,5 @@
 -- Candidates, sets, flows and ancestors that are taken in, with what goes with each.
-use Rattle.std.proofs.Common.{◌≡◌, ◌⊎◌, inl, inr, ⊎_elim, true, List, [], ◌∷◌, ◌++◌, map, flat_map, refl, sym, ap, ◌∙◌, subst}
+use Rattle.std.proofs.Common.{◌≡◌, ◌⊎◌, inl, inr, ⊎_elim, Bool, true, List, [], ◌∷◌, ◌++◌, map, flat_map, refl, sym, ap, ◌∙◌, subst}
 use Rattle.sc_lists.proofs.MemberLaws.{Has-left, Has-right, Has-append, Has-last, Has-push, Has-map, map-Has, Has-flat_map, flat_map-Has}
 use Rattle.sc_lists.specs.Members.{Has}
 use Rattle.sc_sorts.specs.declared.sort.Sort.{Sort}
@@ -14,25 +14,26 @@ use Rattle.sc_rule_laws.specs.Terms.{member}
 use Rattle.sc_closure_rules.specs.Making.{stood}
 use Rattle.sc_closure_rules.specs.Closure.{Role, named, candidate, set, flow, above, pattern, meet, equated_by, members_by, memberships, are_linked, ancestors_of, ancestors_up}
 use Rattle.sc_closure_rules.proofs.MetLaws.{equated_is, member_is}
-use Rattle.sc_closure.specs.declared.crowds.Crowd.{Crowd}
+use Rattle.sc_candidates.specs.declared.crowds.Crowd.{Crowd}
+use Rattle.sc_candidates.specs.Crowds.{HasCandidate, HasTarget, JoinsCandidate, JoinsTarget, met_crowd, crowd_told, linked_told, set_of, set_told, flow_of, flow_told}
+use Rattle.sc_candidates.specs.Ancestors.{up_of, entity_of, both_told, ups_of, entity_told}
+use Rattle.sc_candidates.specs.Kins.{HasKin, AreKins}
+use Rattle.sc_candidates.proofs.DividedLaws.{where_in, in_where}
 use Rattle.sc_closure.specs.declared.roles.Roles.{Roles}
-use Rattle.sc_closure.specs.Crowds.{HasCandidate, HasTarget, JoinsCandidate, JoinsTarget, met_crowd, crowd_told, linked_told, set_of, set_told, flow_of, flow_told}
-use Rattle.sc_closure.specs.Ancestors.{up_of, entity_of, both_told, ups_of, entity_told}
-use Rattle.sc_closure.specs.Following.{Held, TakesIn}
-use Rattle.sc_closure.proofs.GroupLaws.{where_in, in_where}
+use Rattle.sc_closure.specs.Following.{Held, GoesWith, TakesIn}
 use Rattle.sc_closure.proofs.HeldLaws.{is_equated, is_member}
-use Rattle.sc_closure.proofs.TakingLaws.{takes_one}
+use Rattle.sc_closure.proofs.TakingLaws.{takes_one, takes_new}
 
 -- ---- roles of which one kind is of others
 
 abbrev pub but_crowds : Roles → Roles → Roles
-but_crowds r t = record { named = r.named; crowds = t.crowds; sets = r.sets; above = r.above; patterns = r.patterns }
+but_crowds r t = record { named = r.named; crowds = t.crowds; kins = t.kins; sets = r.sets; above = r.above; patterns = r.patterns }
 
 abbrev pub but_sets : Roles → Roles → Roles
-but_sets r t = record { named = r.named; crowds = r.crowds; sets = t.sets; above = r.above; patterns = r.patterns }
+but_sets r t = record { named = r.named; crowds = r.crowds; kins = r.kins; sets = t.sets; above = r.above; patterns = r.patterns }
 
 abbrev pub but_above : Roles → Roles → Roles
-but_above r t = record { named = r.named; crowds = r.crowds; sets = r.sets; above = t.above; patterns = r.patterns }
+but_above r t = record { named = r.named; crowds = r.crowds; kins = r.kins; sets = r.sets; above = t.above; patterns = r.patterns }
 
 -- ---- what crowds tell of a candidate of a set
 
@@ -119,32 +120,46 @@ module _ (turned : (x y : Tree) → equal_term x y ≡ equal_term y x) (xs : Lis
   only (above own e) h = inl h
   only (pattern ps) h = inl h
 
-  forth : (q : Role) (z : Tree) → Held xs (but_crowds r t) q → Has (meet (candidate x s) q) z → Has told z
-  forth (candidate y u) z h m =
+  -- by another candidate of the set, and by a set to which it flows
+  equated_forth : (y u z : Tree) → HasCandidate xs t.crowds.items y u → Has (equated_by (tree_eq s u) x y) z → Has first_part z
+  equated_forth y u z h m =
       let q = equated_is (tree_eq s u) x y z m in
       let same = tree_eq-exact s u q.0 in
-      Has-left first_part (second_part ++ third_part) z
-      (subst (Has first_part) (turned y x ∙ q.1) (crowds_equation xs t.crowds.items x s y (subst (HasCandidate xs t.crowds.items y) (sym same) h)))
+      subst (Has first_part) (turned y x ∙ q.1) (crowds_equation xs t.crowds.items x s y (subst (HasCandidate xs t.crowds.items y) (sym same) h))
+
+  equated_back : (y u z : Tree) → HasCandidate xs t.crowds.items y u → Has (equated_by (tree_eq u s) y x) z → Has first_part z
+  equated_back y u z h m =
+      let q = equated_is (tree_eq u s) y x z m in
+      let same = tree_eq-exact u s q.0 in
+      subst (Has first_part) q.1 (crowds_equation xs t.crowds.items x s y (subst (HasCandidate xs t.crowds.items y) same h))
+
+  flowing_to : (y u z : Tree) → HasTarget xs t.crowds.items y u → Has (members_by (tree_eq s y) x u) z → Has first_part z
+  flowing_to y u z h m =
+      let q = member_is (tree_eq s y) x u z m in
+      let same = tree_eq-exact s y q.0 in
+      subst (Has first_part) q.1 (crowds_membership xs t.crowds.items x s u (subst (λ v. HasTarget xs t.crowds.items v u) (sym same) h))
+
+  in_crowds : (z : Tree) → Has first_part z → (q : Role) × Held xs (but_crowds r t) q × (Has (meet (candidate x s) q) z ⊎ Has (meet q (candidate x s)) z)
+  in_crowds z i = ⊎_elim
+      (λ y. (candidate y.0 s, y.1, inr (subst (Has (equated_by (tree_eq s s) y.0 x)) y.2 (is_equated (tree_eq s s) y.0 x (tree_eq-itself s)))))
+      (λ u. (flow s u.0, u.1, inl (subst (Has (members_by (tree_eq s s) x u.0)) u.2 (is_member (tree_eq s s) x u.0 (tree_eq-itself s)))))
+      (crowds_only xs t.crowds.items x s z i)
+
+  -- one that is new
+  forth : (q : Role) (z : Tree) → Held xs (but_crowds r t) q → Has (meet (candidate x s) q) z → Has told z
+  forth (candidate y u) z h m = Has-left first_part (second_part ++ third_part) z (equated_forth y u z h m)
+  forth (flow y u) z h m = Has-left first_part (second_part ++ third_part) z (flowing_to y u z h m)
   forth (set u) z h m =
       let q = member_is (are_linked s u) x u z m in
       Has-right first_part (second_part ++ third_part) z
       (Has-left second_part third_part z (subst (Has second_part) q.1 (linked_there x s (stood xs r.sets) u h q.0)))
-  forth (flow y u) z h m =
-      let q = member_is (tree_eq s y) x u z m in
-      let same = tree_eq-exact s y q.0 in
-      Has-left first_part (second_part ++ third_part) z
-      (subst (Has first_part) q.1 (crowds_membership xs t.crowds.items x s u (subst (λ v. HasTarget xs t.crowds.items v u) (sym same) h)))
   forth (above own e) z h m =
       Has-right first_part (second_part ++ third_part) z (Has-right second_part third_part z (up_there x s (stood xs r.above) own e z h m))
   forth (named y) z h m = absurd m
   forth (pattern ps) z h m = absurd m
 
-  back : (q : Role) (z : Tree) → Held xs (but_crowds r t) q → Has (meet q (candidate x s)) z → Has told z
-  back (candidate y u) z h m =
-      let q = equated_is (tree_eq u s) y x z m in
-      let same = tree_eq-exact u s q.0 in
-      Has-left first_part (second_part ++ third_part) z
-      (subst (Has first_part) q.1 (crowds_equation xs t.crowds.items x s y (subst (HasCandidate xs t.crowds.items y) same h)))
+  back : (q : Role) (z : Tree) → Held xs (but_crowds r t) q → Has (meet q (candidate x s)) z → Has first_part z
+  back (candidate y u) z h m = equated_back y u z h m
   back (named y) z h m = absurd m
   back (set u) z h m = absurd m
   back (flow y u) z h m = absurd m
@@ -152,14 +167,8 @@ module _ (turned : (x y : Tree) → equal_term x y ≡ equal_term y x) (xs : Lis
   back (pattern ps) z h m = absurd m
 
   sound : (z : Tree) → Has told z → (q : Role) × Held xs (but_crowds r t) q × (Has (meet (candidate x s) q) z ⊎ Has (meet q (candidate x s)) z)
-  sound z h = ⊎_elim in_crowds (λ k. ⊎_elim in_sets in_above (Has-append second_part third_part z k)) (Has-append first_part (second_part ++ third_part) z h)
+  sound z h = ⊎_elim (in_crowds z) (λ k. ⊎_elim in_sets in_above (Has-append second_part third_part z k)) (Has-append first_part (second_part ++ third_part) z h)
     where
-      in_crowds : Has first_part z → (q : Role) × Held xs (but_crowds r t) q × (Has (meet (candidate x s) q) z ⊎ Has (meet q (candidate x s)) z)
-      in_crowds i = ⊎_elim
-          (λ y. (candidate y.0 s, y.1, inr (subst (Has (equated_by (tree_eq s s) y.0 x)) y.2 (is_equated (tree_eq s s) y.0 x (tree_eq-itself s)))))
-          (λ u. (flow s u.0, u.1, inl (subst (Has (members_by (tree_eq s s) x u.0)) u.2 (is_member (tree_eq s s) x u.0 (tree_eq-itself s)))))
-          (crowds_only xs t.crowds.items x s z i)
-
       in_sets : Has second_part z → (q : Role) × Held xs (but_crowds r t) q × (Has (meet (candidate x s) q) z ⊎ Has (meet q (candidate x s)) z)
       in_sets i =
           let u = linked_only x s (stood xs r.sets) z i in
@@ -169,13 +178,28 @@ module _ (turned : (x y : Tree) → equal_term x y ≡ equal_term y x) (xs : Lis
       in_above i = let a = up_only x s (stood xs r.above) z i in (above a.0 a.1, a.2, inl a.3)
 
   pub candidate_taken : TakesIn (Held xs r) (Held xs (but_crowds r t)) (candidate x s ∷ []) told
-  candidate_taken = takes_one (Held xs r) (Held xs (but_crowds r t)) (candidate x s) told old j.there only sound forth back
+  candidate_taken =
+      takes_one (Held xs r) (Held xs (but_crowds r t)) (candidate x s) told old j.there only sound forth
+      (λ q z h m. Has-left first_part (second_part ++ third_part) z (back q z h m))
+
+  -- One that is a candidate of a set of its kin: of which linked sets, and of which ancestors, it is one too has been told.
+  module _ (k : HasKin xs r.crowds.items x s) where
+    forth_known : (q : Role) (z : Tree) → Held xs (but_crowds r t) q → Has (meet (candidate x s) q) z → GoesWith (Held xs r) z ⊎ Has first_part z
+    forth_known (candidate y u) z h m = inr (equated_forth y u z h m)
+    forth_known (flow y u) z h m = inr (flowing_to y u z h m)
+    forth_known (set u) z h m = inl (candidate x k.kin, set u, k.has, h, subst (λ (b : Bool). Has (members_by b x u) z) (sym (k.are.links u)) m)
+    forth_known (above own e) z h m = inl (candidate x k.kin, above own e, k.has, h, subst (λ (ts : List Tree). Has ts z) (sym (k.are.ups x own e)) m)
+    forth_known (named y) z h m = absurd m
+    forth_known (pattern ps) z h m = absurd m
+
+    pub known_taken : TakesIn (Held xs r) (Held xs (but_crowds r t)) (candidate x s ∷ []) first_part
+    known_taken = takes_new (Held xs r) (Held xs (but_crowds r t)) (candidate x s) first_part old j.there only in_crowds forth_known (λ q z h m. inr (back q z h m))
 
 -- ---- a set
 
-module _ (xs : List Node) (r t : Roles) (own : Tree) (all : stood xs t.sets ≡ stood xs r.sets ++ own ∷ []) where
+module _ (xs : List Node) (r t : Roles) (kins : AreKins xs r.crowds.items r.kins.items) (own : Tree) (all : stood xs t.sets ≡ stood xs r.sets ++ own ∷ []) where
   abbrev members : List Tree
-  members = set_told xs own r.crowds.items
+  members = set_told xs own r.kins.items
 
   old_set : (q : Role) → Held xs r q → Held xs (but_sets r t) q
   old_set (set y) h = subst (λ (ts : List Tree). Has ts y) (sym all) (Has-left (stood xs r.sets) (own ∷ []) y h)
@@ -196,9 +220,11 @@ module _ (xs : List Node) (r t : Roles) (own : Tree) (all : stood xs t.sets ≡ 
   back_set : (q : Role) (z : Tree) → Held xs (but_sets r t) q → Has (meet q (set own)) z → Has members z
   back_set (candidate y u) z h m =
       let q = member_is (are_linked u own) y own z m in
-      Has-flat_map (set_of xs own) r.crowds.items h.crowd z h.there
-      (in_where (are_linked (tree xs h.crowd.set) own) (memberships (stood xs h.crowd.members) own) z (ap (λ v. are_linked v own) h.of_set ∙ q.0)
-      (subst (Has (memberships (stood xs h.crowd.members) own)) q.1 (Has-map (λ v. member v own) (stood xs h.crowd.members) y h.among)))
+      let k = kins.there y u h in
+      let c = k.has.crowd in
+      Has-flat_map (set_of xs own) r.kins.items c z k.has.there
+      (in_where (are_linked (tree xs c.set) own) (memberships (stood xs c.members) own) z (ap (λ v. are_linked v own) k.has.of_set ∙ k.are.links own ∙ q.0)
+      (subst (Has (memberships (stood xs c.members) own)) q.1 (Has-map (λ v. member v own) (stood xs c.members) y k.has.among)))
   back_set (named y) z h m = absurd m
   back_set (set y) z h m = absurd m
   back_set (flow y u) z h m = absurd m
@@ -207,13 +233,11 @@ module _ (xs : List Node) (r t : Roles) (own : Tree) (all : stood xs t.sets ≡ 
 
   sound_set : (z : Tree) → Has members z → (q : Role) × Held xs (but_sets r t) q × (Has (meet (set own) q) z ⊎ Has (meet q (set own)) z)
   sound_set z h =
-      let c = flat_map-Has (set_of xs own) r.crowds.items z h in
+      let c = flat_map-Has (set_of xs own) r.kins.items z h in
       let w = where_in (are_linked (tree xs c.0.set) own) (memberships (stood xs c.0.members) own) z c.2 in
-      let y = map-Has (λ v. member v own) (stood xs c.0.members) z w.1 in (
-        candidate y.0 (tree xs c.0.set),
-        record { crowd = c.0; there = c.1; of_set = refl; among = y.1 },
-        inr (subst (Has (members_by (are_linked (tree xs c.0.set) own) y.0 own)) y.2 (is_member (are_linked (tree xs c.0.set) own) y.0 own w.0)),
-      )
+      let y = map-Has (λ v. member v own) (stood xs c.0.members) z w.1 in
+      let k = kins.only y.0 (tree xs c.0.set) (record { crowd = c.0; there = c.1; of_set = refl; among = y.1 }) in
+      (candidate y.0 k.kin, k.has, inr (subst (Has (members_by (are_linked k.kin own) y.0 own)) y.2 (is_member (are_linked k.kin own) y.0 own (k.are.links own ∙ w.0))))
 
   pub set_taken : TakesIn (Held xs r) (Held xs (but_sets r t)) (set own ∷ []) members
   set_taken =
@@ -268,7 +292,7 @@ module _ (xs : List Node) (r t : Roles) (s u : Tree) (j : JoinsTarget xs r.crowd
 
 -- ---- the ancestors of an entity
 
-module _ (xs : List Node) (r t : Roles) (own : Sort) (e : Tree) (all : stood xs t.above ≡ stood xs r.above ++ ancestors_of own e ∷ []) where
+module _ (xs : List Node) (r t : Roles) (kins : AreKins xs r.crowds.items r.kins.items) (own : Sort) (e : Tree) (all : stood xs t.above ≡ stood xs r.above ++ ancestors_of own e ∷ []) where
   abbrev here : Tree
   here = ancestors_of own e
 
@@ -276,7 +300,7 @@ module _ (xs : List Node) (r t : Roles) (own : Sort) (e : Tree) (all : stood xs 
   pairs = flat_map (both_told (ancestors_of own e)) (stood xs t.above)
 
   abbrev ups : List Tree
-  ups = flat_map (ups_of xs (ancestors_of own e)) r.crowds.items
+  ups = flat_map (ups_of xs (ancestors_of own e)) r.kins.items
 
   old_above : (q : Role) → Held xs r q → Held xs (but_above r t) q
   old_above (above k f) h = subst (λ (ts : List Tree). Has ts (ancestors_of k f)) (sym all) (Has-left (stood xs r.above) (ancestors_of own e ∷ []) (ancestors_of k f) h)
@@ -317,8 +341,11 @@ module _ (xs : List Node) (r t : Roles) (own : Sort) (e : Tree) (all : stood xs 
       Has-left pairs ups z (Has-flat_map (both_told (ancestors_of own e)) (stood xs t.above) (ancestors_of k f) z h
       (Has-right (entity_of (ancestors_of own e) (ancestors_of k f)) (entity_of (ancestors_of k f) (ancestors_of own e)) z m))
   back_above (candidate y u) z h m =
-      Has-right pairs ups z (Has-flat_map (ups_of xs (ancestors_of own e)) r.crowds.items h.crowd z h.there
-      (Has-flat_map (λ x. up_of x (tree xs h.crowd.set) (ancestors_of own e)) (stood xs h.crowd.members) y z h.among (subst (λ v. Has (ancestors_up y v own e) z) (sym h.of_set) m)))
+      let k = kins.there y u h in
+      let c = k.has.crowd in
+      Has-right pairs ups z (Has-flat_map (ups_of xs (ancestors_of own e)) r.kins.items c z k.has.there
+      (Has-flat_map (λ x. up_of x (tree xs c.set) (ancestors_of own e)) (stood xs c.members) y z k.has.among
+      (subst (λ v. Has (ancestors_up y v own e) z) (sym k.has.of_set) (subst (λ (ts : List Tree). Has ts z) (sym (k.are.ups y own e)) m))))
   back_above (named y) z h m = absurd m
   back_above (set y) z h m = absurd m
   back_above (flow y u) z h m = absurd m
@@ -338,11 +365,12 @@ module _ (xs : List Node) (r t : Roles) (own : Sort) (e : Tree) (all : stood xs 
 
       in_ups : Has ups z → (q : Role) × Held xs (but_above r t) q × (Has (meet (above own e) q) z ⊎ Has (meet q (above own e)) z)
       in_ups i =
-          let c = flat_map-Has (ups_of xs (ancestors_of own e)) r.crowds.items z i in
+          let c = flat_map-Has (ups_of xs (ancestors_of own e)) r.kins.items z i in
           let x = flat_map-Has (λ x. up_of x (tree xs c.0.set) (ancestors_of own e)) (stood xs c.0.members) z c.2 in
-          (candidate x.0 (tree xs c.0.set), record { crowd = c.0; there = c.1; of_set = refl; among = x.1 }, inr x.2)
+          let k = kins.only x.0 (tree xs c.0.set) (record { crowd = c.0; there = c.1; of_set = refl; among = x.1 }) in
+          (candidate x.0 k.kin, k.has, inr (subst (λ (ts : List Tree). Has ts z) (sym (k.are.ups x.0 own e)) x.2))
 
-  pub above_taken : TakesIn (Held xs r) (Held xs (but_above r t)) (above own e ∷ []) (entity_told xs r.crowds.items (stood xs t.above) (ancestors_of own e))
+  pub above_taken : TakesIn (Held xs r) (Held xs (but_above r t)) (above own e ∷ []) (entity_told xs r.kins.items (stood xs t.above) (ancestors_of own e))
   above_taken =
       takes_one (Held xs r) (Held xs (but_above r t)) (above own e) (pairs ++ ups) old_above (subst (λ (ts : List Tree). Has ts (ancestors_of own e)) (sym all) (Has-last (stood xs r.above) (ancestors_of own e)))
       only_above sound_above forth_above back_above

@@ -1,10 +1,10 @@
 -- Groups of one sort: a term that joins one of them, and what goes with a term and theirs.
-use Rattle.std.proofs.Common.{◌≡◌, ◌⊎◌, inl, inr, ⊎_elim, ℕ, zero, suc, ◌+◌, ◌<◌, ◌≤◌, Bool, true, false, List, [], ◌∷◌, ◌++◌, map, take, get_or, length, refl, sym, ap, ◌∙◌, subst, arith}
+use Rattle.std.proofs.Common.{◌≡◌, ◌⊎◌, inl, inr, ⊎_elim, ℕ, zero, suc, ◌+◌, ◌<◌, ◌≤◌, Bool, true, List, [], ◌∷◌, ◌++◌, map, take, get_or, length, refl, sym, ap, ◌∙◌, subst, arith}
 use Rattle.std.proofs.lemmas.Grind.{flat_map-append}
 use Rattle.std.proofs.lemmas.List.{map-append}
 use Rattle.std.specs.Prelude.{slice_set}
 use Rattle.std.specs.List.{AllByRecursion}
-use Rattle.sc_lists.proofs.ListLaws.{all_append, all_weaker}
+use Rattle.sc_lists.proofs.ListLaws.{all_append}
 use Rattle.sc_lists.proofs.MemberLaws.{Has-left, Has-right, Has-append, Has-last, Has-push, Has-map, map-Has, AllByRecursion-Has}
 use Rattle.sc_lists.specs.Members.{Has}
 use Rattle.sc_sorts.specs.declared.sort.Sort.{Sort}
@@ -19,11 +19,10 @@ use Rattle.sc_closure_rules.proofs.MakingLaws.{puts_same, stood_later}
 use Rattle.sc_closure_rules.proofs.MemberLaws.{within_later, within_push}
 use Rattle.sc_rule_laws.specs.Terms.{one_sort}
 use Rattle.sc_closure_rules.proofs.LoopLaws.{all_next, all_end}
+use Rattle.sc_candidates.proofs.DividedLaws.{divided_push, divided_later, item_at, where_in, in_where}
 use Rattle.sc_closure.specs.declared.roles.Group.{Group}
 use Rattle.sc_closure.specs.declared.roles.Meeting.{Meeting}
-use Rattle.sc_closure.specs.declared.crowds.Crowd.{Crowd}
-use Rattle.sc_closure.specs.Crowds.{IsCrowd, AreCrowds}
-use Rattle.sc_closure.specs.Values.{value_in, with_other, where_so, AreDivided}
+use Rattle.sc_candidates.specs.Values.{value_in, where_so}
 use Rattle.sc_closure.specs.Following.{grouped, no_group, group_with, with_member, IsDivided, IsGroup, AreGroups, IsGroupWithin, Joins, met_term, is_met, met_terms, pattern_in, met_in, met_among}
 
 -- ---- a term joins a group at a place
@@ -31,26 +30,6 @@ use Rattle.sc_closure.specs.Following.{grouped, no_group, group_with, with_membe
 -- what holds of each member
 all_push : (P : ℕ → Type 0) (ns : List ℕ) (n : ℕ) → AllByRecursion P ns → P n → AllByRecursion P (ns ++ n ∷ [])
 all_push P ns n h k = all_append P ns (n ∷ []) h (k, tt)
-
-other_old : (value : Bool) (ns : List ℕ) (n m : ℕ) → Has ns m → Has (with_other value ns n) m
-other_old true ns n m h = h
-other_old false ns n m h = Has-left ns (n ∷ []) m h
-
-other_there : (value : Bool) (ns : List ℕ) (n : ℕ) → Has (with_other value ns n) n ⊎ (value ≡ true)
-other_there true ns n = inr refl
-other_there false ns n = inl (Has-last ns n)
-
-other_only : (value : Bool) (ns : List ℕ) (n m : ℕ) → Has (with_other value ns n) m → Has (ns ++ n ∷ []) m
-other_only true ns n m h = Has-left ns (n ∷ []) m h
-other_only false ns n m h = h
-
--- members that are divided stay so with one more
-pub divided_push : (xs : List Node) (value : Bool) (ms os : List ℕ) (n : ℕ) → value ≡ value_in (literal_of (tree xs n)) → AreDivided xs ms os → AreDivided xs (ms ++ n ∷ []) (with_other value os n)
-divided_push xs value ms os n e h = record {
-  others_in = λ m k. ⊎_elim (λ i. Has-left ms (n ∷ []) m (h.others_in m i)) (λ i. subst (Has (ms ++ n ∷ [])) i (Has-last ms n)) (Has-push os n m (other_only value os n m k));
-  divided = λ m k. ⊎_elim (λ i. ⊎_elim (λ j. inl (other_old value os n m j)) inr (h.divided m i))
-      (λ i. ⊎_elim (λ j. inl (subst (Has (with_other value os n)) i j)) (λ j. inr (subst (λ (l : ℕ). value_in (literal_of (tree xs l)) ≡ true) i (sym e ∙ j))) (other_there value os n)) (Has-push ms n m k);
-}
 
 module _ (value : Bool) (term : ℕ) where
   abbrev set_at : List Group → ℕ → List Group
@@ -135,12 +114,6 @@ pub members_within : (l : ℕ) (gs : List Group) → AllByRecursion (IsGroupWith
 members_within l [] h = tt
 members_within l (g ∷ gs) h = all_append (λ n. n < l) g.members (grouped gs) h.0.1 (members_within l gs h.1)
 
--- what is read at a place
-pub item_at : {X : Type 0} (P : X → Type 0) (xs : List X) → AllByRecursion P xs → (i : ℕ) (x : X) → i < length xs → x ≡ get_or xs i x → P x
-item_at P [] h i x k e = absurd (omega arith)
-item_at P (y ∷ ys) h zero x k e = subst P (sym e) h.0
-item_at P (y ∷ ys) h (suc i) x k e = item_at P ys h.1 i x (omega arith) e
-
 pub group_at : (l : ℕ) (gs : List Group) → AllByRecursion (IsGroupWithin l) gs → (i : ℕ) (g : Group) → i < length gs → g ≡ get_or gs i g → IsGroupWithin l g
 group_at l gs h i g k e = item_at (IsGroupWithin l) gs h i g k e
 
@@ -159,12 +132,6 @@ module _ (xs ys : List Node) (e : Keeps xs ys) where
   alike_later k [] h a = tt
   alike_later k (n ∷ ns) h a = (ap tree_sort (e.same n h.0) ∙ a.0, alike_later k ns h.1 a.1)
 
-  pub divided_later : (ms os : List ℕ) → AllByRecursion (λ n. n < length xs) ms → AreDivided xs ms os → AreDivided ys ms os
-  divided_later ms os w h = record {
-    others_in = h.others_in;
-    divided = λ n k. ⊎_elim inl (λ i. inr (ap (λ (t : Tree). value_in (literal_of t)) (e.same n (AllByRecursion-Has (λ n. n < length xs) ms n w k)) ∙ i)) (h.divided n k);
-  }
-
   pub groups_later : (gs : List Group) → AreGroups xs gs → AreGroups ys gs
   groups_later [] h = tt
   groups_later (g ∷ gs) h =
@@ -174,23 +141,10 @@ module _ (xs ys : List Node) (e : Keeps xs ys) where
           members_in = within_later (length xs) (length ys) e.longer g.members h.0.members_in;
           alike = alike_later (tree_sort (tree ys g.first)) g.members h.0.members_in
               (subst (λ (t : Tree). AllByRecursion (λ n. tree_sort (tree xs n) ≡ tree_sort t) g.members) (sym first_stays) h.0.alike);
-          divided = divided_later g.members g.others h.0.members_in h.0.divided;
+          divided = divided_later xs ys e g.members g.others h.0.members_in h.0.divided;
         },
         groups_later gs h.1,
       )
-
-  pub crowd_later : (c : Crowd) → IsCrowd xs c → IsCrowd ys c
-  crowd_later c h = record {
-    within = (
-      omega (arith, h.within.0, e.longer),
-      within_later (length xs) (length ys) e.longer c.members h.within.1,
-      within_later (length xs) (length ys) e.longer c.targets h.within.2,
-    );
-    divided = divided_later c.members c.others h.within.1 h.divided;
-  }
-
-  pub crowds_later : (cs : List Crowd) → AreCrowds xs cs → AreCrowds ys cs
-  crowds_later cs h = all_weaker (IsCrowd xs) (IsCrowd ys) crowd_later cs h
 
   -- what goes with a term and a group's stays
   pub in_stays : (m : Meeting) (g : Group) (x : Tree) → IsGroupWithin (length xs) g → met_in m (tree ys g.first) (stood ys g.members) x ≡ met_in m (tree xs g.first) (stood xs g.members) x
@@ -229,14 +183,6 @@ groups_next m gs s0 s1 s2 ls ms ns i term g within term_in so_far h at p =
     (puts_same s1 s2 ms ns (met_in m (tree s1 g.first) (stood s1 g.members) (tree s1 term)) (met_in m (tree s0 g.first) (stood s0 g.members) (tree s0 term)) same p)
 
 -- ---- what goes with a term and those of groups, by each of them
-
-pub where_in : (b : Bool) (ts : List Tree) (z : Tree) → Has (where_so b ts) z → (b ≡ true) × Has ts z
-where_in true ts z h = (refl, h)
-where_in false ts z h = absurd h
-
-pub in_where : (b : Bool) (ts : List Tree) (z : Tree) → b ≡ true → Has ts z → Has (where_so b ts) z
-in_where true ts z e h = h
-in_where false ts z e h = absurd cc
 
 -- one of these, where something goes with it
 pub record IsMet (m : Meeting) (ts : List Tree) (x z : Tree) : Type 0 where

@@ -1,7 +1,7 @@
 -- Roles that are held by numbers of a table, as they are and as more are taken in.
 use Rattle.std.proofs.Common.{◌≡◌, ◌⊎◌, inl, inr, ⊎_elim, ℕ, Bool, true, false, List, ◌++◌, map, length, refl, sym, ap, ◌∙◌, subst}
 use Rattle.std.specs.Cmp.{IsTotalOrder}
-use Rattle.sc_lists.proofs.MemberLaws.{AllByRecursion-Has, Has-left, Has-right, Has-append, Has-map, map-Has}
+use Rattle.sc_lists.proofs.MemberLaws.{Has-left, Has-right, Has-append, Has-map, map-Has}
 use Rattle.sc_lists.specs.Members.{Has}
 use Rattle.sc_pattern.specs.declared.part.Part.{Part}
 use Rattle.sc_sorts.specs.declared.sort.Sort.{Sort, Sort-F}
@@ -21,14 +21,15 @@ use Rattle.sc_closure_rules.proofs.MemberLaws.{within_later}
 use Rattle.sc_rule_laws.specs.Terms.{one_sort, member}
 use Rattle.sc_closure_rules.specs.Closure.{Role, named, candidate, set, flow, above, pattern, ancestors_of, equated_by, members_by, matches_by}
 use Rattle.sc_closure_rules.proofs.MetLaws.{equated_is}
-use Rattle.sc_closure.specs.declared.crowds.Crowd.{Crowd}
+use Rattle.sc_candidates.specs.Equations.{Equates}
+use Rattle.sc_candidates.proofs.DividedLaws.{crowds_later}
+use Rattle.sc_candidates.proofs.KinLaws.{candidate_later, candidate_before, target_later, target_before, kins_later}
 use Rattle.sc_closure.specs.declared.roles.Group.{Group}
-use Rattle.sc_closure.specs.Crowds.{IsCrowd}
 use Rattle.sc_closure.specs.declared.roles.Roles.{Roles}
 use Rattle.sc_closure.specs.declared.roles.Meeting.TheVariants as meeting
-use Rattle.sc_closure.specs.Following.{pattern_in, grouped, Held, AreGroups, AreRoles, Joins, is_text, met_among, Equates, TakesIn, Takes}
+use Rattle.sc_closure.specs.Following.{pattern_in, grouped, Held, AreGroups, AreRoles, Joins, is_text, met_among, TakesIn, Takes}
 use Rattle.sc_terms.proofs.EqualLaws.{equal_turned}
-use Rattle.sc_closure.proofs.GroupLaws.{groups_within, members_within, groups_later, crowds_later, among_has, has_among}
+use Rattle.sc_closure.proofs.GroupLaws.{groups_within, members_within, groups_later, among_has, has_among}
 
 -- ---- roles stay while the table grows
 
@@ -51,53 +52,19 @@ module _ (xs ys : List Node) (e : Keeps xs ys) (r : Roles) (are : AreRoles xs r)
   above_stays : stood ys r.above ≡ stood xs r.above
   above_stays = stood_later xs ys e r.above are.of_above
 
-  -- a crowd's set, candidates and targets
-  module _ (c : Crowd) (there : Has r.crowds.items c) where
-    is_crowd : IsCrowd xs c
-    is_crowd = AllByRecursion-Has (IsCrowd xs) r.crowds.items c are.of_crowds there
-
-    set_stays : tree ys c.set ≡ tree xs c.set
-    set_stays = e.same c.set is_crowd.within.0
-
-    members_stay : stood ys c.members ≡ stood xs c.members
-    members_stay = stood_later xs ys e c.members is_crowd.within.1
-
-    targets_stay : stood ys c.targets ≡ stood xs c.targets
-    targets_stay = stood_later xs ys e c.targets is_crowd.within.2
-
   pub held_later : (p : Role) → Held xs r p → Held ys r p
   held_later (named x) h = moved r.named.items x are.of_named h
-  held_later (candidate x s) h = record {
-    crowd = h.crowd;
-    there = h.there;
-    of_set = set_stays h.crowd h.there ∙ h.of_set;
-    among = subst (λ (ts : List Tree). Has ts x) (sym (members_stay h.crowd h.there)) h.among;
-  }
+  held_later (candidate x s) h = candidate_later xs ys e r.crowds.items are.of_crowds x s h
   held_later (set x) h = subst (λ (ts : List Tree). Has ts x) (sym sets_stay) h
-  held_later (flow s t) h = record {
-    crowd = h.crowd;
-    there = h.there;
-    of_set = set_stays h.crowd h.there ∙ h.of_set;
-    among = subst (λ (ts : List Tree). Has ts t) (sym (targets_stay h.crowd h.there)) h.among;
-  }
+  held_later (flow s t) h = target_later xs ys e r.crowds.items are.of_crowds s t h
   held_later (above k f) h = subst (λ (ts : List Tree). Has ts (ancestors_of k f)) (sym above_stays) h
   held_later (pattern ps) h = subst (λ (ts : List Tree). Has (map pattern_in ts) ps) (sym patterns_stay) h
 
   pub held_before : (p : Role) → Held ys r p → Held xs r p
   held_before (named x) h = moved_back r.named.items x are.of_named h
-  held_before (candidate x s) h = record {
-    crowd = h.crowd;
-    there = h.there;
-    of_set = sym (set_stays h.crowd h.there) ∙ h.of_set;
-    among = subst (λ (ts : List Tree). Has ts x) (members_stay h.crowd h.there) h.among;
-  }
+  held_before (candidate x s) h = candidate_before xs ys e r.crowds.items are.of_crowds x s h
   held_before (set x) h = subst (λ (ts : List Tree). Has ts x) sets_stay h
-  held_before (flow s t) h = record {
-    crowd = h.crowd;
-    there = h.there;
-    of_set = sym (set_stays h.crowd h.there) ∙ h.of_set;
-    among = subst (λ (ts : List Tree). Has ts t) (targets_stay h.crowd h.there) h.among;
-  }
+  held_before (flow s t) h = target_before xs ys e r.crowds.items are.of_crowds s t h
   held_before (above k f) h = subst (λ (ts : List Tree). Has ts (ancestors_of k f)) above_stays h
   held_before (pattern ps) h = subst (λ (ts : List Tree). Has (map pattern_in ts) ps) patterns_stay h
 
@@ -105,6 +72,7 @@ module _ (xs ys : List Node) (e : Keeps xs ys) (r : Roles) (are : AreRoles xs r)
   roles_later = record {
     of_named = groups_later xs ys e r.named.items are.of_named;
     of_crowds = crowds_later xs ys e r.crowds.items are.of_crowds;
+    of_kins = kins_later xs ys e r.crowds.items r.kins.items are.of_crowds are.of_kins;
     of_sets = within_later (length xs) (length ys) e.longer r.sets are.of_sets;
     of_above = within_later (length xs) (length ys) e.longer r.above are.of_above;
     of_patterns = within_later (length xs) (length ys) e.longer r.patterns are.of_patterns;

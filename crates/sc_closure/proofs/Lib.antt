@@ -6,15 +6,12 @@ pub use Rattle.sc_closure_rules.proofs.MemberLaws
 pub use Rattle.sc_closure_rules.proofs.SortLaws
 pub mod PuttingLaws
 pub mod IndexLaws
-mod EquationLaws
 mod GroupLaws
+mod GroupEquationLaws
 mod TakingLaws
 mod HeldLaws
 mod TakenLaws
-mod JoinLaws
 mod CrowdLaws
-mod CrowdLoopLaws
-mod AncestorLaws
 mod RoleLaws
 mod TakesLaws
 pub mod ClosingLaws

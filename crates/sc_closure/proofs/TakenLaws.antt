@@ -19,8 +19,9 @@ use Rattle.sc_closure_rules.proofs.MemberLaws.{within_push}
 use Rattle.sc_closure_rules.specs.Closure.{Role, named, candidate, set, flow, above, pattern, meet, matches_by}
 use Rattle.sc_closure.specs.declared.roles.Roles.{Roles}
 use Rattle.sc_closure.specs.declared.roles.Meeting.TheVariants as meeting
-use Rattle.sc_closure.specs.Values.{where_so}
-use Rattle.sc_closure.specs.Following.{pattern_in, Held, AreRoles, Joins, is_text, met_terms, met_among, met_patterns, Equates, TakesIn, Takes}
+use Rattle.sc_candidates.specs.Values.{where_so}
+use Rattle.sc_candidates.specs.Equations.{Equates}
+use Rattle.sc_closure.specs.Following.{pattern_in, Held, AreRoles, Joins, is_text, met_terms, met_among, met_patterns, TakesIn, Takes}
 use Rattle.sc_closure.proofs.GroupLaws.{among_has, has_among, met_patterns_has, has_met_patterns}
 use Rattle.sc_closure.proofs.HeldLaws.{taken_put, takes_same, told_back, told_forth, joined_old, joined_there, joined_only, match_is, is_match, equation_back, equation_forth, equation_of, own_equation}
 use Rattle.sc_closure.proofs.TakingLaws.{takes_one}
@@ -28,10 +29,10 @@ use Rattle.sc_closure.proofs.TakingLaws.{takes_one}
 -- roles of which one kind is of others
 
 abbrev but_named : Roles → Roles → Roles
-but_named r s = record { named = s.named; crowds = r.crowds; sets = r.sets; above = r.above; patterns = r.patterns }
+but_named r s = record { named = s.named; crowds = r.crowds; kins = r.kins; sets = r.sets; above = r.above; patterns = r.patterns }
 
 abbrev but_patterns : Roles → Roles → Roles
-but_patterns r s = record { named = r.named; crowds = r.crowds; sets = r.sets; above = r.above; patterns = s.patterns }
+but_patterns r s = record { named = r.named; crowds = r.crowds; kins = r.kins; sets = r.sets; above = r.above; patterns = s.patterns }
 
 -- ---- a text or an entity
 
@@ -49,6 +50,7 @@ module _ (total : IsTotalOrder tree_cmp) (xs : List Node) (r s : Roles) (are : A
   named_roles = record {
     of_named = j.are are.of_named;
     of_crowds = are.of_crowds;
+    of_kins = are.of_kins;
     of_sets = are.of_sets;
     of_above = are.of_above;
     of_patterns = are.of_patterns;
@@ -131,6 +133,7 @@ module _ (xs : List Node) (r s : Roles) (are : AreRoles xs r) (n : ℕ) (within 
   pattern_roles = record {
     of_named = are.of_named;
     of_crowds = are.of_crowds;
+    of_kins = are.of_kins;
     of_sets = are.of_sets;
     of_above = are.of_above;
     of_patterns = subst (AllByRecursion (λ m. m < length xs)) (sym pushed) (within_push (length xs) n r.patterns are.of_patterns within);

@@ -159,6 +159,6 @@ follows_all d a b c r s n ms ns within are p x =
         taken = takes.taken;
         only = λ q h. ⊎_elim (λ i. inl (held_before a b p.kept r are q i)) inr (takes.only q h);
         sound = takes.sound;
-        whole = λ q u z h k m. ⊎_elim (λ i. inl (held_before a b p.kept r are q i.0, held_before a b p.kept r are u i.1)) inr (takes.whole q u z h k m);
+        whole = λ q u z h k m. ⊎_elim (λ i. inl (i.0, i.1, held_before a b p.kept r are i.0 i.2, held_before a b p.kept r are i.1 i.3, i.4)) inr (takes.whole q u z h k m);
       };
     }

@@ -1,5 +1,5 @@
 -- Numbers of a table on their way to the closed terms. No public promise speaks of it.
-use Rattle.std.specs.Prelude.{◌≡◌, ◌<◌, ◌⊎◌, ℕ, Bool, true, false, not, ◌&&◌, List, [], ◌∷◌, ◌++◌, map, flat_map, filter, take, length, nat_eq, Option, Some, None, is_some, unwrap_or, ⊤}
+use Rattle.std.specs.Prelude.{◌≡◌, ◌<◌, ◌⊎◌, ℕ, Bool, true, false, List, [], ◌∷◌, ◌++◌, map, flat_map, filter, take, length, nat_eq, Option, Some, None, is_some, unwrap_or, ⊤}
 use Rattle.std.specs.List.{AllByRecursion}
 use Rattle.indexmap.specs.IndexSet.{insert_key}
 use Rattle.sc_lists.specs.Members.{Has}
@@ -15,15 +15,16 @@ use Rattle.sc_sorts.specs.declared.node.ManyOp.TheVariants as manys
 use Rattle.sc_sorts.specs.declared.node.BinaryOp.TheVariants as binary
 use Rattle.sc_sorts.specs.declared.node.UnaryOp.{UnaryOp}
 use Rattle.sc_sorts.specs.declared.node.UnaryOp.TheVariants as unary
-use Rattle.sc_sorts.specs.declared.node.Literal.{Literal}
-use Rattle.sc_sorts.specs.Literals.{same_entity}
 use Rattle.sc_terms.specs.Trees.{Tree, one}
 use Rattle.sc_terms.specs.Tables.{tree, Keeps}
 use Rattle.sc_terms.specs.TreeSorts.{tree_sort}
-use Rattle.sc_terms.specs.Order.{tree_eq}
-use Rattle.sc_terms.specs.Folds.{truth_term, literal_of, equal_term, like_term}
+use Rattle.sc_terms.specs.Folds.{truth_term, equal_term, like_term}
 use Rattle.sc_rule_laws.specs.Terms.{written}
-use Rattle.sc_closure_rules.specs.Making.{Puts, stood}
+use Rattle.sc_closure_rules.specs.Making.{stood}
+use Rattle.sc_candidates.specs.Ancestors.{IsAbove}
+use Rattle.sc_candidates.specs.Crowds.{AreCrowds, HasCandidate, HasTarget}
+use Rattle.sc_candidates.specs.Kins.{AreKins}
+use Rattle.sc_candidates.specs.Values.{with_other, where_so, AreDivided}
 use Rattle.sc_closure.specs.declared.roles.Group.{Group}
 use Rattle.sc_closure.specs.declared.roles.Meeting.{Meeting}
 use Rattle.sc_closure.specs.declared.roles.Meeting.TheVariants as meeting
@@ -33,9 +34,6 @@ use Rattle.sc_closure.specs.declared.taking.Part.TheVariants as part
 use Rattle.sc_closure.specs.declared.taking.Place.{Place}
 use Rattle.sc_closure.specs.declared.taking.Place.TheVariants as place
 use Rattle.sc_closure_rules.specs.Closure.{principal_term, resource_term, follow, Role, named, candidate, set, flow, above, pattern, ancestors_of, unless_written, roles_in, roles, meet, Closed}
-use Rattle.sc_closure.specs.Ancestors.{IsAbove}
-use Rattle.sc_closure.specs.Crowds.{AreCrowds, HasCandidate, HasTarget}
-use Rattle.sc_closure.specs.Values.{truth_value, with_other, where_so, AreDivided}
 use Rattle.sc_closure.specs.Atoms.{is_atom}
 
 -- a number after the others, if it isn't there
@@ -105,6 +103,7 @@ AreGroups xs = AllByRecursion (IsGroup xs)
 pub record AreRoles (xs : List Node) (r : Roles) : Type 0 where
   pub of_named : AreGroups xs r.named.items
   pub of_crowds : AreCrowds xs r.crowds.items
+  pub of_kins : AreKins xs r.crowds.items r.kins.items
   pub of_sets : AllByRecursion (λ n. n < length xs) r.sets
   pub of_above : AllByRecursion (λ n. n < length xs) r.above
   pub of_patterns : AllByRecursion (λ n. n < length xs) r.patterns
@@ -187,25 +186,6 @@ met_term meeting.Equation t x = equal_term t x
 met_term meeting.Texts t x = like_term t (pattern_in x)
 met_term meeting.Patterns t x = like_term x (pattern_in t)
 
--- whether two literals that aren't one are of two values, and neither is a truth value
-abbrev pub two_values : Literal → Literal → Bool
-two_values l m = not (truth_value l) && (not (truth_value m) && not (same_entity l m))
-
--- whether two terms, given whether they are one, are literals of two values
-abbrev pub apart : Bool → Option Literal → Option Literal → Bool
-apart true o p = false
-apart false (Some l) (Some m) = two_values l m
-apart false _ _ = false
-
--- whether the term of a number and another are two values
-abbrev pub apart_from : List Node → Tree → ℕ → Bool
-apart_from xs x n = apart (tree_eq (tree xs n) x) (literal_of (tree xs n)) (literal_of x)
-
--- the equations of a value and others, given whether one of them is another value
-abbrev pub told_of : Bool → Tree → List Tree
-told_of true x = equal_term x x ∷ truth_term false ∷ []
-told_of false x = equal_term x x ∷ []
-
 -- where something goes with terms of a sort and one of another
 abbrev pub is_met : Meeting → Sort → Sort → Bool
 is_met meeting.Equation a b = sorts.eq a b
@@ -225,20 +205,18 @@ met_among m xs gs x = flat_map (λ (g : Group). met_in m (tree xs g.first) (stoo
 abbrev pub met_patterns : List Node → List ℕ → Tree → List Tree
 met_patterns xs ns x = where_so (is_text (out-Sort (tree_sort x))) (met_terms meeting.Patterns (stood xs ns) x)
 
--- numbers are put that stand for these equations of a term, and perhaps for its equation with itself
-pub record Equates (old new : List Node) (before after : List ℕ) (ys : List Tree) (x : Tree) : Type 0 where
-  pub told : List Tree
-  pub puts : Puts old new before after told
-  pub only : (z : Tree) → Has told z → Has ys z ⊎ (equal_term x x ≡ z)
-  pub whole : (z : Tree) → Has ys z → Has told z
+-- a term goes with two roles that are held
+abbrev pub GoesWith : (Role → Type 0) → Tree → Type 0
+GoesWith held z = (p : Role) × (q : Role) × held p × held q × Has (meet p q) z
 
--- Roles are taken in: those held before and these are held, and of two of which one is new what goes with both is told.
+-- Roles are taken in: those held before and these are held, and of two of which one is new what goes with both is told,
+-- unless it goes with two that were held.
 pub record TakesIn (held new : Role → Type 0) (ps : List Role) (zs : List Tree) : Type 0 where
   pub old : (p : Role) → held p → new p
   pub taken : (p : Role) → Has ps p → new p
   pub only : (p : Role) → new p → held p ⊎ Has ps p
-  pub sound : (z : Tree) → Has zs z → (p : Role) × (q : Role) × new p × new q × Has (meet p q) z
-  pub whole : (p q : Role) (z : Tree) → new p → new q → Has (meet p q) z → (held p × held q) ⊎ Has zs z
+  pub sound : (z : Tree) → Has zs z → GoesWith new z
+  pub whole : (p q : Role) (z : Tree) → new p → new q → Has (meet p q) z → GoesWith held z ⊎ Has zs z
 
 -- The same by numbers: roles are taken in while the table grows, and what goes with two is put behind other numbers.
 pub record Takes (old new : List Node) (r s : Roles) (ps : List Role) (before after : List ℕ) : Type 0 where

@@ -9,8 +9,5 @@ pub use Rattle.sc_closure_rules.specs.Judging
 pub use Rattle.sc_closure_rules.specs.Making
 pub use Rattle.sc_closure_rules.specs.Truths
 pub mod Atoms
-pub mod Values
-pub mod Crowds
-pub mod Ancestors
 pub mod Following
 pub mod Places

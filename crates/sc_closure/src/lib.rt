@@ -2,14 +2,11 @@
 //! further one or too many of them are atoms.
 #![tactic(auto)]
 
-mod ancestors;
 mod closing;
-mod crowds;
 mod equations;
 mod kind;
 mod limit;
 mod listing;
-mod memberships;
 mod numbers;
 mod roles;
 mod taking;

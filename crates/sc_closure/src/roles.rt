@@ -15,8 +15,7 @@ ghost use Rattle.sc_closure_rules.specs.Closure.{Role};
 ghost use Rattle.sc_rule_laws.specs.Terms.{one_sort};
 ghost use Rattle.sc_closure.specs.Following.{AreRoles, Held, IsGroupWithin, Joins, no_group, with_member, group_with, is_met as meets, met_term, met_terms, met_in, met_among, met_patterns, is_text as text, operator_in, asked, pattern_in};
 
-use crate::crowds::Crowd;
-use crate::equations::is_value;
+use sc_candidates::{Crowd, is_value};
 use sc_lists::Seq;
 use sc_pattern::{Pattern, pattern_of};
 use sc_sorts::{Node, Sort, UnaryOp};
@@ -53,6 +52,8 @@ pub(crate) struct Roles {
     pub(crate) named: Vec<Group>,
     /// The candidates of sets that are no set terms.
     pub(crate) crowds: Vec<Crowd>,
+    /// The same, each once for all sets whose candidates are one another's.
+    pub(crate) kins: Vec<Crowd>,
     /// The sets.
     pub(crate) sets: Seq<u64>,
     /// The ancestors of entities.
@@ -63,6 +64,7 @@ pub(crate) struct Roles {
 
 impl Roles {
     /// No roles.
+    #[tactic(auto, using(sc_candidates::proofs::KinLaws::no_kins))]
     pub(crate) fn new(alloc: Global) -> Roles
         ensures none { (xs : List AnyNode) (p : Role) → Held xs result p → ⊥ }
         ensures are { (xs : List AnyNode) → AreRoles xs result }
@@ -70,6 +72,7 @@ impl Roles {
         Roles {
             named: Vec::new(alloc),
             crowds: Vec::new(alloc),
+            kins: Vec::new(alloc),
             sets: Seq::new(alloc),
             above: Seq::new(alloc),
             patterns: Seq::new(alloc),

@@ -5,14 +5,16 @@ ghost use Rattle.sc_terms.specs.TreeSorts.{tree_sort};
 ghost use Rattle.sc_terms.specs.Tables.{tree, Keeps};
 ghost use Rattle.sc_rule_laws.specs.Terms.{written};
 ghost use Rattle.sc_closure_rules.specs.Closure.{roles as roles_of, roles_in, roles_by, unless_written, named, candidate, set, flow, pattern};
-ghost use Rattle.sc_closure.specs.Ancestors.{IsAbove};
+ghost use Rattle.sc_candidates.specs.Ancestors.{IsAbove};
+ghost use Rattle.sc_candidates.specs.Kins.{HasKin};
 ghost use Rattle.sc_closure.specs.Following.{AreRoles, IsPartOf, Takes, set_node, part_in, is_written as written_set, flow_role, common_role, pattern_in, place_in as place_of_sort};
 
-use crate::ancestors::{meet_above, meet_entity};
-use crate::crowds::{join_candidate, join_target};
 use crate::equations::equate_groups;
-use crate::memberships::{meet_crowds, meet_flow, meet_linked, meet_set};
 use crate::roles::{Meeting, Roles, is_pattern_known, join, meet_groups, meet_patterns};
+use sc_candidates::{
+    is_known, join_candidate, join_kin, join_target, meet_above, meet_crowds, meet_entity,
+    meet_flow, meet_linked, meet_set,
+};
 use sc_closure_rules::order_laws;
 use sc_sorts::{BinaryOp, ManyOp, Node, Sort, UnaryOp};
 use sc_terms::Terms;
@@ -40,9 +42,33 @@ fn take_named(
     Ok(())
 }
 
+/// A candidate of a set that is one of another whose candidates are the same, so that all is told but
+/// whether it is each other one of the set, and whether it is a member of the sets to which that flows.
+fn take_known(
+    alloc: Global,
+    terms: &mut Terms,
+    roles: &mut Roles,
+    n: u64,
+    in_set: u64,
+    numbers: &mut Vec<u64>,
+) -> Result<(), AllocError>
+    requires within { n < length terms.old }
+    requires set_within { in_set < length terms.old }
+    requires are { AreRoles terms.old roles.old }
+    requires known { HasKin terms.old roles.old.kins.items (tree terms.old n) (tree terms.old in_set) }
+    ensures ok { OnOk result (Takes terms.old terms.new roles.old roles.new (candidate (tree terms.old n) (tree
+        terms.old in_set) ∷ []) numbers.old.items numbers.new.items) }
+    ensures kept { Keeps terms.old terms.new }
+{
+    order_laws();
+    join_candidate(alloc, terms, &mut roles.crowds, in_set, n)?;
+    meet_crowds(terms, &roles.crowds, in_set, n, numbers)?;
+    Ok(())
+}
+
 /// A candidate of a set: whether it is each other one, and whether it is a member of the sets to which
 /// the set flows or with which it is linked, and, of an entity's ancestors, of those of other entities.
-fn take_candidate(
+fn take_new(
     alloc: Global,
     terms: &mut Terms,
     roles: &mut Roles,
@@ -59,10 +85,34 @@ fn take_candidate(
 {
     order_laws();
     join_candidate(alloc, terms, &mut roles.crowds, in_set, n)?;
+    join_kin(alloc, terms, &mut roles.kins, in_set, n)?;
     meet_crowds(terms, &roles.crowds, in_set, n, numbers)?;
     meet_linked(terms, roles.sets.as_slice(), in_set, n, numbers)?;
     meet_above(alloc, terms, roles.above.as_slice(), in_set, n, numbers)?;
     Ok(())
+}
+
+/// A candidate of a set.
+fn take_candidate(
+    alloc: Global,
+    terms: &mut Terms,
+    roles: &mut Roles,
+    n: u64,
+    in_set: u64,
+    numbers: &mut Vec<u64>,
+) -> Result<(), AllocError>
+    requires within { n < length terms.old }
+    requires set_within { in_set < length terms.old }
+    requires are { AreRoles terms.old roles.old }
+    ensures ok { OnOk result (Takes terms.old terms.new roles.old roles.new (candidate (tree terms.old n) (tree
+        terms.old in_set) ∷ []) numbers.old.items numbers.new.items) }
+    ensures kept { Keeps terms.old terms.new }
+{
+    if is_known(terms, &roles.kins, in_set, n) {
+        take_known(alloc, terms, roles, n, in_set, numbers)
+    } else {
+        take_new(alloc, terms, roles, n, in_set, numbers)
+    }
 }
 
 /// A set: whether the candidates of each linked one are its members.
@@ -79,7 +129,7 @@ fn take_set(
     ensures kept { Keeps terms.old terms.new }
 {
     roles.sets.push(n)?;
-    meet_set(terms, &roles.crowds, n, numbers)?;
+    meet_set(terms, &roles.kins, n, numbers)?;
     Ok(())
 }
 
@@ -124,7 +174,7 @@ fn take_above(
         alloc,
         terms,
         roles.above.as_slice(),
-        &roles.crowds,
+        &roles.kins,
         n,
         numbers,
     )?;

@@ -33,7 +33,7 @@ use Rattle.sc_term_laws.specs.Judging as judged
 use Rattle.sc_term_laws.proofs.ChoicesLaws.{chosen, there_action}
 use Rattle.sc_term_laws.proofs.DefaultMade.{default_made, held_made}
 use Rattle.sc_term_laws.proofs.JudgingLaws.{sort_is}
-use Rattle.sc_term_laws.proofs.SortsLawful.{lawful_action, tags_lawful, type_lawful}
+use Rattle.sc_term_laws.proofs.SortsLawful.{listed_below, lawful_action, tags_lawful, type_lawful}
 use Rattle.sc_term_laws.proofs.TestLaws.{at_level}
 use Rattle.sc_term_definitions.specs.Definitions.{definition, inputs_of, chosen_of, over_leaf}
 use Rattle.sc_term_definitions.specs.Truths.{InputsAreTerms}
@@ -150,7 +150,7 @@ module _ (d : Declarations) (env : Env) (literals : List Uid) (lawful : IsLawful
     action_made : (u : Uid) (t : Tree) → Contains (choices_of d name) u
         → Has (ancestors_of set_sort (uid_term (choices_of d name) u) ∷ declared_members d (out-Sort set_sort) set_sort (uid_term (choices_of d name) u) u) t → Is t
     action_made u t here m =
-        let c = chosen name (action_uids d) u here in
+        let c = listed_below d lawful name above names types is_above u here in
         let entity = uid_at d env literals name (choices_of d name) u refl c.among c.named in
         let members = λ (n : Has (declared_members d (out-Sort set_sort) set_sort (uid_term (choices_of d name) u) u) t).
         members_made u (uid_term (choices_of d name) u) t c.among entity

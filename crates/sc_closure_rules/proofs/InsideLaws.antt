@@ -15,8 +15,8 @@ use Rattle.sc_term_laws.specs.Tests.{bool_level, is_bool}
 use Rattle.sc_term_definitions.specs.Definitions.{counted, bits_in, bit_count}
 use Rattle.sc_term_definitions.specs.Making.{Puts}
 use Rattle.sc_term_definitions.proofs.MakingLaws.{puts_then, puts_same, puts_nothing}
-use Rattle.sc_closure_rules.specs.declared.following.Equated.{Equated}
-use Rattle.sc_closure_rules.specs.declared.following.Equated.TheVariants as equated
+use Rattle.sc_closure_rules.specs.declared.equations.Equated.{Equated}
+use Rattle.sc_closure_rules.specs.declared.equations.Equated.TheVariants as equated
 use Rattle.sc_closure_rules.specs.Closure.{bit_terms, inside, inside_by, branches, equations}
 use Rattle.sc_closure_rules.specs.Beside.{held_option, held_terms, equated_by}
 

@@ -21,7 +21,7 @@ use Rattle.sc_terms.specs.TreeSorts.{tree_sort}
 use Rattle.sc_terms.specs.Folds.{literal_term, literal_of, equal_term, field_term, present_term, held_term, default_term, bit_term}
 use Rattle.sc_term_laws.specs.Judging.{IsTermOf, IsTerm, HasPlace, of_long, of_decimal, of_ip}
 use Rattle.sc_term_laws.specs.Judging as judged
-use Rattle.sc_term_laws.proofs.ChoicesLaws.{chosen}
+use Rattle.sc_term_laws.proofs.ChoicesLaws.{listed_of, listed_itself, action_listed}
 use Rattle.sc_term_laws.proofs.DefaultMade.{default_made, held_made}
 use Rattle.sc_term_laws.proofs.MadeLaws.{bit_made, equal_made, field_made, present_made}
 use Rattle.sc_term_laws.proofs.TestLaws.{at_level}
@@ -69,14 +69,15 @@ module _ (d : Declarations) (env : Env) (written : List Uid) where
   pub equation_made : (a b : Tree) → Is a → Is b → tree_sort a ≡ tree_sort b → Is (equal_term a b)
   equation_made a b h i e = equated (tree_sort b) a b (at (tree_sort b) a e h) i
 
-  -- an entity that is a declared action of a type
-  pub uid_at : (name : List ℕ) (us : List Uid) (u : Uid) → us ≡ choices_of d name → Contains (action_uids d) u → u.type_name ≡ name → Of (entity_sort d name) (uid_term us u)
-  uid_at name us u e there named =
-      let made = subst (λ (n : List ℕ). Of (entity_sort d n) (literal_term (literal.Entity u (choices_of d n)))) named (judged.of_uid u (inr there)) in
+  -- an entity that its type lists
+  pub uid_made : (name : List ℕ) (us : List Uid) (u : Uid) → us ≡ choices_of d name → Contains (choices_of d name) u → Of (entity_sort d name) (uid_term us u)
+  uid_made name us u e h =
+      let made = subst (λ (n : List ℕ). Of (entity_sort d n) (literal_term (literal.Entity u (choices_of d n)))) (listed_of d name u h).named (judged.of_uid u (inr (listed_itself d name u h))) in
       subst (λ (vs : List Uid). Of (entity_sort d name) (uid_term vs u)) (sym e) made
 
-  pub uid_made : (name : List ℕ) (us : List Uid) (u : Uid) → us ≡ choices_of d name → Contains (choices_of d name) u → Of (entity_sort d name) (uid_term us u)
-  uid_made name us u e h = let c = chosen name (action_uids d) u h in uid_at name us u e c.among c.named
+  -- an entity that is a declared action of a type
+  pub uid_at : (name : List ℕ) (us : List Uid) (u : Uid) → us ≡ choices_of d name → Contains (action_uids d) u → u.type_name ≡ name → Of (entity_sort d name) (uid_term us u)
+  uid_at name us u e there named = uid_made name us u e (subst (λ (n : List ℕ). Contains (choices_of d n) u) named (action_listed d u there))
 
   module _ (lawful : IsLawful d) (among : Contains (environments d) env) (declared : AllByRecursion (IsDeclared d) written) where
     -- a record's field of this name and sort

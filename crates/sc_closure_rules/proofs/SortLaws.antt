@@ -29,7 +29,7 @@ use Rattle.sc_term_laws.specs.LawfulSorts.{IsDeclared, IsSortLevel, IsSortOf}
 use Rattle.sc_term_laws.proofs.ChoicesLaws.{declared_is}
 use Rattle.sc_term_laws.proofs.FitRecords.{all_apart}
 use Rattle.sc_term_laws.proofs.FitVals.{no_option_at}
-use Rattle.sc_term_laws.proofs.SortsLawful.{lawful_action, above_declared, attrs_lawful, tags_lawful, context_lawful, type_lawful, declared_action}
+use Rattle.sc_term_laws.proofs.SortsLawful.{lawful_action, above_declared, attrs_lawful, tags_lawful, context_lawful, type_lawful, listed_declared}
 
 -- ---- a field is found by its name, where names ascend
 
@@ -95,7 +95,7 @@ module _ (d : Declarations) (env : Env) (written : List Uid) (lawful : IsLawful 
     sort_lawful _ _ (judged.of_decimal_number n h) = (in_Decimal (IsSortLevel d)).1 tt
     sort_lawful _ _ (judged.of_address ip h) = (in_Ip (IsSortLevel d)).1 tt
     sort_lawful _ _ (judged.of_uid u (inl h)) = entity_lawful u.type_name (written_declared u h)
-    sort_lawful _ _ (judged.of_uid u (inr h)) = entity_lawful u.type_name (declared_action d lawful u h)
+    sort_lawful _ _ (judged.of_uid u (inr h)) = entity_lawful u.type_name (listed_declared d lawful u h).type_declared
     sort_lawful _ _ (judged.of_default name h e) = (in_Entity (IsSortLevel d) name []).1 (inl h, sym e)
     sort_lawful _ _ (judged.of_none k h) = (in_Option (IsSortLevel d) k).1 h
     sort_lawful _ _ judged.of_principal = entity_lawful env.principal (inl principal_declared)

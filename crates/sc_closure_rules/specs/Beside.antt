@@ -18,8 +18,8 @@ use Rattle.sc_terms.specs.Tables.{Places, tree}
 use Rattle.sc_terms.specs.TreeSorts.{tree_sort}
 use Rattle.sc_closure_rules.specs.declared.following.Beside.{Beside}
 use Rattle.sc_closure_rules.specs.declared.following.Beside.TheVariants as row
-use Rattle.sc_closure_rules.specs.declared.following.Equated.{Equated}
-use Rattle.sc_closure_rules.specs.declared.following.Equated.TheVariants as equated
+use Rattle.sc_closure_rules.specs.declared.equations.Equated.{Equated}
+use Rattle.sc_closure_rules.specs.declared.equations.Equated.TheVariants as equated
 use Rattle.sc_closure_rules.specs.Closure.{beside, branches, equations, ancestors_of, uid_term}
 
 abbrev pub is_literal : Node → Bool

@@ -59,11 +59,11 @@ inside_by k x = bit_terms (bits_in k) x
 abbrev pub inside : Tree → List Tree
 inside x = inside_by (out-Sort (tree_sort x)) x
 
--- an entity, beside the choices of its sort
+-- an entity, beside those that its sort lists
 abbrev pub uid_term : List Uid → Uid → Tree
 uid_term us u = literal_term (literal.Entity u us)
 
--- the entities that it may be: of a sort of actions the declared ones, where it isn't written
+-- the entities that it may be, where its sort lists them and it isn't written: declared actions, or choices
 abbrev pub choices_by : Sort-F Sort → List Tree
 choices_by (s.Entity name us) = map (uid_term us) us
 choices_by _ = []

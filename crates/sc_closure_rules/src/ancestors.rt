@@ -1,4 +1,4 @@
-//! What goes with entities of types of actions, and with the ancestors of entities.
+//! What goes with entities whose types list them, and with the ancestors of entities.
 ghost use Rattle.std.specs.Prelude.{◌≡◌, ◌<◌, [], ◌∷◌, length, map, flat_map, is_some, unwrap_or, IfOk, OnOk};
 ghost use Rattle.std.specs.Str.{bytes_eq};
 ghost use Rattle.sc_schema.specs.Declarations.{ancestor_types as types_above, action_ancestors as actions_above};
@@ -79,7 +79,7 @@ fn put_uids(
     Ok(())
 }
 
-/// Puts the declared actions of an entity's type, unless it is written.
+/// Puts the entities that an entity's type lists, unless it is written.
 pub(crate) fn put_choices(
     alloc: Global,
     terms: &mut Terms,

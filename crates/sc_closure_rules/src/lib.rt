@@ -3,7 +3,9 @@
 #![tactic(auto)]
 
 mod ancestors;
+mod equations;
 mod following;
+mod inside;
 mod law;
 mod places;
 mod sets;

@@ -47,7 +47,7 @@ attributes_sort s name = sort_of (unwrap_or (attrs_of s name) (types.Record []))
 
 -- the record that an attribute is read of
 abbrev pub object_in : Declarations → Ty-F Ty → Tree → Tree
-object_in s (t.Entity name) a = one (unary.Attributes (attributes_sort s name)) a
+object_in s (t.Entity kind) a = one (unary.Attributes (attributes_sort s kind.name)) a
 object_in s type a = a
 
 abbrev pub field_of : Declarations → Ty → List ℕ → Tree → Tree
@@ -130,7 +130,7 @@ in_some_of s n None a b = truth_term false
 
 -- by the type of the right side
 abbrev pub in_type : Declarations → List ℕ → Ty-F Ty → Tree → Tree → Tree
-in_type s n (t.Entity u) a b = in_one s n u a b
+in_type s n (t.Entity kind) a b = in_one s n kind.name a b
 in_type s n (t.Set member) a b = in_some_of s n (entity_name member) a b
 in_type s n type a b = truth_term false
 
@@ -175,7 +175,7 @@ in_code s type x y a b =
 
 -- ---- entities that are written, and variables
 
--- beside an action stand the declared ones of its type
+-- beside an entity stand those that its type lists
 abbrev pub entity_term : Declarations → Uid → Tree
 entity_term s u = literal_term (literal.Entity u (choices_of s u.type_name))
 

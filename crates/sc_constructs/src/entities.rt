@@ -307,7 +307,7 @@ fn in_type(
     ensures kept { Keeps terms.old terms.new }
 {
     match ty {
-        Ty::Entity(of) => in_one(setting, terms, name, of, a, b),
+        Ty::Entity(of) => in_one(setting, terms, name, &of.name, a, b),
         Ty::Set(member) => match entity_name(member.get()) {
             Some(of) => in_some(setting, terms, name, of, a, b),
             None => terms.truth(false),

@@ -45,8 +45,8 @@ fn object(setting: &Setting<'_>, terms: &mut Terms, ty: &Ty, a: u64) -> Result<u
     ensures kept { Keeps terms.old terms.new }
 {
     match ty {
-        Ty::Entity(name) => {
-            let sort = attributes_sort(setting.alloc, setting.schema, name)?;
+        Ty::Entity(kind) => {
+            let sort = attributes_sort(setting.alloc, setting.schema, &kind.name)?;
             terms.attributes(a, sort)
         }
         _ => Ok(a),

@@ -1,8 +1,23 @@
 -- The search for a gap, one number after the other.
-use Rattle.std.proofs.Common.{◌≡◌, ℕ, ◌<◌, ◌+◌, Bool, true, false, List, get_or, Option, Some, None, ⊎_elim, sym, ◌∙◌, subst, arith}
+use Rattle.std.proofs.Common.{◌≡◌, ℕ, ◌<◌, ◌+◌, Bool, true, false, List, length, get_or, Option, Some, None, ⊎_elim, sym, ◌∙◌, subst, arith}
 use Rattle.sc_falsified.specs.Truths.{Truth}
-use Rattle.sc_falsified.specs.Paths.{NoGap, IsReach, NoEnd, NoStart, NoMiddle}
+use Rattle.sc_falsified.specs.Paths.{NoGap, IsReach, ReachesNone, NoEnd, NoStart, NoMiddle}
 use Rattle.sc_laws.proofs.NumberLaws.{last_or_before}
+
+pub none_first : (reach : List (Option Bool)) → ReachesNone reach 0
+unfolding ReachesNone
+none_first reach c less = absurd (omega arith)
+
+pub none_more : (reach : List (Option Bool)) (c : ℕ) → ¬ (get_or reach c None ≡ Some true) → ReachesNone reach c → ReachesNone reach (c + 1)
+unfolding ReachesNone
+none_more reach c other h d less =
+    ⊎_elim (h d) (λ (same : d ≡ c). subst (λ m. ¬ (get_or reach m None ≡ Some true)) (sym same) other) (last_or_before d c less)
+
+-- where no end is reached, no start makes a gap
+pub none_reached : (first second third : Truth) (starts ends b : ℕ) (reach : List (Option Bool)) → IsReach second ends b reach → ReachesNone reach (length reach)
+    → NoStart first second third starts ends b
+unfolding ReachesNone NoStart NoEnd
+none_reached first second third starts ends b reach is none a less on c low joined off = none c (omega (arith, is.sized, low)) (is.at c low ∙ joined)
 
 pub end_first : (second third : Truth) (a b : ℕ) → NoEnd second third 0 a b
 unfolding NoEnd

@@ -20,6 +20,10 @@ pub record IsReach (second : Truth) (ends b : ℕ) (reach : List (Option Bool)) 
   pub sized : length reach ≡ ends
   pub at : (c : ℕ) → c < ends → get_or reach c None ≡ second b c
 
+-- none of the first ends of a row is reached
+unfoldable pub ReachesNone : List (Option Bool) → ℕ → Type 0
+ReachesNone reach n = (c : ℕ) → c < n → ¬ (get_or reach c None ≡ Some true)
+
 -- no gap by this start and middle
 unfoldable pub NoEnd : Truth → Truth → ℕ → ℕ → ℕ → Type 0
 NoEnd second third ends a b = (c : ℕ) → c < ends → second b c ≡ Some true → ¬ (third a c ≡ Some false)

@@ -1,7 +1,7 @@
 //! Gaps: a start is joined to a middle, the middle to an end, and the start is known not to be joined to that end. So
 //! transitivity fails, or that members of a subset are members.
 ghost use Rattle.std.specs.Prelude.{◌≡◌, ℕ, ◌<◌, Bool, Option, length, slice_index_or, ◌↔◌, None, IfOk, IfSome, IfNone, IsTrue, Some, true, false};
-ghost use Rattle.sc_falsified.specs.Paths.{IsGap, NoGap, IsReach, NoEnd, NoStart};
+ghost use Rattle.sc_falsified.specs.Paths.{IsGap, NoGap, IsReach, ReachesNone, NoEnd, NoStart};
 
 use crate::truths::is;
 use std::alloc::{AllocError, Global};
@@ -71,6 +71,19 @@ fn reaches(reach: &[Option<bool>], c: usize) -> bool
     is(reach[c], true)
 }
 
+/// Whether a middle is known to be joined to any end.
+#[tactic(auto, using(crate::proofs::PathLaws::none_first, crate::proofs::PathLaws::none_more))]
+fn reaches_any(reach: &[Option<bool>]) -> bool
+    ensures { result ≡ false → ReachesNone reach.now (length reach.now) }
+{
+    for c in 0..reach.len() {
+        if reaches(reach, c) {
+            return true;
+        }
+    }
+    false
+}
+
 /// An end to which a middle is joined and a start is known not to be.
 #[tactic(auto, using(crate::proofs::PathLaws::end_first, crate::proofs::PathLaws::end_unreached, crate::proofs::PathLaws::end_joined))]
 fn end<P: Paths>(paths: &P, reach: &[Option<bool>], a: usize, b: usize) -> Option<usize>
@@ -89,13 +102,16 @@ fn end<P: Paths>(paths: &P, reach: &[Option<bool>], a: usize, b: usize) -> Optio
 }
 
 /// A start that is joined to a middle, and an end to which the middle is joined and the start is known not to be.
-#[tactic(auto, using(crate::proofs::PathLaws::start_first, crate::proofs::PathLaws::start_skip, crate::proofs::PathLaws::start_more))]
+#[tactic(auto, using(crate::proofs::PathLaws::none_reached, crate::proofs::PathLaws::start_first, crate::proofs::PathLaws::start_skip, crate::proofs::PathLaws::start_more))]
 fn start<P: Paths>(paths: &P, reach: &[Option<bool>], b: usize) -> Option<(usize, usize)>
     requires { IsReach (P.second paths.now) (P.ends paths.now) b reach.now }
     ensures found { IfSome result (λ p. IsGap (P.first paths.now) (P.second paths.now) (P.third paths.now) p.0 b p.1) }
     ensures none { IfNone result (NoStart (P.first paths.now) (P.second paths.now) (P.third paths.now)
         (P.starts paths.now) (P.ends paths.now) b) }
 {
+    if !reaches_any(reach) {
+        return None;
+    }
     for a in 0..paths.starts() {
         if is(paths.first(a, b), true) {
             if let Some(c) = end(paths, reach, a, b) {

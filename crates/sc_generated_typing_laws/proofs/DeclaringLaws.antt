@@ -118,15 +118,15 @@ types = document_expanded ∷ group_expanded ∷ user_expanded ∷ []
 
 document_of : IsEntityTypeOf (type_links types) document_expanded document
 unfolding document document_expanded group_expanded user_expanded
-document_of = record { name = refl; ancestors = none_above; shape = refl; tags = refl }
+document_of = record { name = refl; ancestors = none_above; shape = refl; tags = refl; choices = refl }
 
 group_of : IsEntityTypeOf (type_links types) group_expanded group
 unfolding group document_expanded group_expanded user_expanded
-group_of = record { name = refl; ancestors = groups_above (codes "Group") (1, omega arith, refl); shape = refl; tags = refl }
+group_of = record { name = refl; ancestors = groups_above (codes "Group") (1, omega arith, refl); shape = refl; tags = refl; choices = refl }
 
 user_of : IsEntityTypeOf (type_links types) user_expanded user
 unfolding user document_expanded group_expanded user_expanded
-user_of = record { name = refl; ancestors = groups_above (codes "User") (2, omega arith, refl); shape = refl; tags = refl }
+user_of = record { name = refl; ancestors = groups_above (codes "User") (2, omega arith, refl); shape = refl; tags = refl; choices = refl }
 
 -- what is made of a declaration, and of what one is made
 record Makes (d : ExpandedEntityType) (t : EntityType) : Type 0 where

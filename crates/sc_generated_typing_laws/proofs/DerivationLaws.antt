@@ -36,7 +36,7 @@ use Rattle.sc_typing_laws.specs.Derivations.{Derives, of_and, of_binary, of_in, 
 use Rattle.sc_typing_laws.specs.Operations.{of_comparison, of_arithmetic, greater, addition}
 use Rattle.sc_typing_laws.proofs.GivenLaws.{given}
 use Rattle.sc_generated_laws.specs.Lines.{body_of, policy_of}
-use Rattle.sc_generated_typing_laws.specs.Schema.{context_fields, context, view, document, group as group_type, user, viewing, declared, environment}
+use Rattle.sc_generated_typing_laws.specs.Schema.{free, entity, context_fields, context, view, document, group as group_type, user, viewing, declared, environment}
 use Rattle.sc_generated_typing_laws.proofs.TypingLaws.{acting_And, acting_Binary, acting_Access, acting_Literal, acting_Variable}
 
 -- ---- types
@@ -62,11 +62,11 @@ true_is = ap (λ z. is_boolean_in (out-Ty z)) (sym rolls-True) ∙ ap is_boolean
 true_open : is_false ty.True ≡ false
 true_open = ap (λ z. is_false_in (out-Ty z)) (sym rolls-True) ∙ ap is_false_in (out-roll-Ty t.True)
 
-entity_is : (name : List ℕ) → entity_name (ty.Entity name) ≡ Some name
-entity_is name = ap (λ z. entity_name_in (out-Ty z)) (sym (rolls-Entity name)) ∙ ap entity_name_in (out-roll-Ty (t.Entity name))
+entity_is : (name : List ℕ) → entity_name (entity name) ≡ Some name
+entity_is name = ap (λ z. entity_name_in (out-Ty z)) (sym (rolls-Entity (free name))) ∙ ap entity_name_in (out-roll-Ty (t.Entity (free name)))
 
-group_is : (name : List ℕ) → group (ty.Entity name) ≡ Some name
-group_is name = ap (λ z. group_in (out-Ty z)) (sym (rolls-Entity name)) ∙ ap group_in (out-roll-Ty (t.Entity name))
+group_is : (name : List ℕ) → group (entity name) ≡ Some name
+group_is name = ap (λ z. group_in (out-Ty z)) (sym (rolls-Entity (free name))) ∙ ap group_in (out-roll-Ty (t.Entity (free name)))
 
 fields_are : (fields : List Field) → attributes declared (ty.Record fields) ≡ Some fields
 fields_are fields = ap (λ z. attributes_in declared (out-Ty z)) (sym (rolls-Record fields)) ∙ ap (attributes_in declared) (out-roll-Ty (t.Record fields))
@@ -90,7 +90,7 @@ membership_of at id = expr.Binary (at 19) In (expr.Variable (at 18) Principal) (
 
 abbrev typed_membership : (ℕ → Place) → List ℕ → TypedExpr
 typed_membership at id =
-    typed.Binary (at 19) ty.Bool In (typed.Variable (at 18) (ty.Entity (codes "User")) Principal) (typed.Literal (at 20) (ty.Entity (codes "Group")) (literal.Entity (record { type_name = codes "Group"; id = id })))
+    typed.Binary (at 19) ty.Bool In (typed.Variable (at 18) (entity (codes "User")) Principal) (typed.Literal (at 20) (entity (codes "Group")) (literal.Entity (record { type_name = codes "Group"; id = id })))
 
 abbrev Given : Expr → TypedExpr → Type 0
 Given x y = Derives declared environment (acting view x) [] (made y [])
@@ -137,13 +137,13 @@ among : (at : ℕ → Place) (id : List ℕ) → Given (membership_of at id) (ty
 unfolding declared document group_type user viewing
 among at id =
     let uid : Uid = record { type_name = codes "Group"; id = id } in
-    let x = typed.Variable (at 18) (ty.Entity (codes "User")) Principal in
-    let y = typed.Literal (at 20) (ty.Entity (codes "Group")) (literal.Entity uid) in
+    let x = typed.Variable (at 18) (entity (codes "User")) Principal in
+    let y = typed.Literal (at 20) (entity (codes "Group")) (literal.Entity uid) in
     of_in _ [] _ (at 19) _ _ (made x []) (made y []) (codes "User") (codes "Group") (acting_Binary view (at 19) In (expr.Variable (at 18) Principal) (expr.Literal (at 20) (literal.Entity uid)))
     (of_variable _ [] _ (at 18) Principal (acting_Variable view (at 18) Principal) refl) (undecided (at 18) (acting view (expr.Literal (at 20) (literal.Entity uid))))
     (of_literal _ [] _ (at 20) (literal.Entity uid) (acting_Literal view (at 20) (literal.Entity uid)) refl)
-    (ap entity_name (type_is x (ty.Entity (codes "User")) (type_of_Variable (at 18) (ty.Entity (codes "User")) Principal)) ∙ entity_is (codes "User"))
-    (ap group (type_is y (ty.Entity (codes "Group")) (type_of_Literal (at 20) (ty.Entity (codes "Group")) (literal.Entity uid))) ∙ group_is (codes "Group")) refl
+    (ap entity_name (type_is x (entity (codes "User")) (type_of_Variable (at 18) (entity (codes "User")) Principal)) ∙ entity_is (codes "User"))
+    (ap group (type_is y (entity (codes "Group")) (type_of_Literal (at 20) (entity (codes "Group")) (literal.Entity uid))) ∙ group_is (codes "Group")) refl
 
 -- `a && b` of two expressions of type Bool
 both : (p : Place) (a b : Expr) (x y : TypedExpr) → outcome.ty x ≡ ty.Bool → outcome.ty y ≡ ty.Bool → Given a x → Given b y → Given (expr.And p a b) (typed.And p (and_type x y) x y)

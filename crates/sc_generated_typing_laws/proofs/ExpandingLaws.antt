@@ -1,6 +1,7 @@
 -- The schema with its types written out: there are no common types, and no type is too large.
-use Rattle.std.proofs.Common.{◌≡◌, ℕ, ◌+◌, List, [], map, true, false, None, refl, sym, ap, arith, ◌∙◌}
+use Rattle.std.proofs.Common.{◌≡◌, ℕ, ◌+◌, List, [], map, codes, true, false, None, refl, sym, ap, arith, ◌∙◌}
 use Rattle.std.specs.List.{sum_by}
+use Rattle.sc_schema.specs.declared.ty.EntityKind.{EntityKind}
 use Rattle.sc_schema.specs.declared.ty.Presence.{Presence}
 use Rattle.sc_schema.specs.declared.ty.Ty.{Ty, out-Ty, out-roll-Ty}
 use Rattle.sc_schema.specs.declared.ty.Ty.TheVariants as ty
@@ -12,53 +13,60 @@ use Rattle.sc_schema.specs.declared.resolved_type.ResolvedType.{ResolvedType, Re
 use Rattle.sc_schema.specs.declared.resolved_type.ResolvedType.TheVariants as type
 use Rattle.sc_schema.specs.declared.resolved_type.ResolvedType.TheVariants.{rolls-Boolean, rolls-Long as rolls-Long_type, rolls-String as rolls-String_type, rolls-Ip as rolls-Ip_type, rolls-Entity as rolls-Entity_type}
 use Rattle.sc_schema.specs.declared.resolved_type.ResolvedType.TheOpen as r
-use Rattle.sc_schema_types.specs.Expansions.{Meaning, expand_step, expanded, IsMeaning}
+use Rattle.sc_schema_types.specs.Expansions.{Kinds, kinds_of, kind_among, Meaning, expand_step, expanded, IsMeaning}
 use Rattle.sc_schema_types.specs.Faults.{fault_of, first_fault}
 use Rattle.sc_schema_types.specs.Orders.{IsOrder}
 use Rattle.sc_schema_types.specs.References.{body_among, body_of}
 use Rattle.sc_schema_types.specs.Sizes.{is_record_level, is_record, is_too_large}
 use Rattle.sc_schema_types.specs.Types.{expanded_schema, IsExpansion}
 use Rattle.sc_schema_types.proofs.ExpansionLaws.{expanded_Set, expanded_Record}
-use Rattle.sc_generated_typing_laws.specs.Schema.{context_fields, context, document, group, user}
+use Rattle.sc_generated_typing_laws.specs.Schema.{free, context_fields, context, document, group, user}
 use Rattle.sc_generated_typing_laws.specs.Steps.{context_resolved, document_resolved, user_resolved, resolved_schema, document_expanded, group_expanded, user_expanded, viewing_expanded}
 use Rattle.sc_generated_typing_laws.specs.Steps as steps
 
 -- ---- what types stand for
 
+abbrev kinds : Kinds
+kinds = kinds_of resolved_schema
+
 -- no common type is named, so any meaning will do
 abbrev nothing : Meaning
 nothing name = ty.Bool
 
-rolled : (x : ResolvedType) (y : ResolvedType-F ResolvedType) → roll-ResolvedType y ≡ x → expanded nothing x ≡ expand_step nothing (map-ResolvedType ResolvedType Ty (expanded nothing) y)
+rolled : (x : ResolvedType) (y : ResolvedType-F ResolvedType) → roll-ResolvedType y ≡ x → expanded kinds nothing x ≡ expand_step kinds nothing (map-ResolvedType ResolvedType Ty (expanded kinds nothing) y)
 unfolding expanded
-rolled x y at = ap (expanded nothing) (sym at) ∙ fold-roll-ResolvedType Ty (expand_step nothing) y
+rolled x y at = ap (expanded kinds nothing) (sym at) ∙ fold-roll-ResolvedType Ty (expand_step kinds nothing) y
 
-is_Boolean : expanded nothing type.Boolean ≡ ty.Bool
+is_Boolean : expanded kinds nothing type.Boolean ≡ ty.Bool
 is_Boolean = rolled type.Boolean r.Boolean rolls-Boolean
 
-is_Long : expanded nothing type.Long ≡ ty.Long
+is_Long : expanded kinds nothing type.Long ≡ ty.Long
 is_Long = rolled type.Long r.Long rolls-Long_type
 
-is_String : expanded nothing type.String ≡ ty.String
+is_String : expanded kinds nothing type.String ≡ ty.String
 is_String = rolled type.String r.String rolls-String_type
 
-is_Ip : expanded nothing type.Ip ≡ ty.Ip
+is_Ip : expanded kinds nothing type.Ip ≡ ty.Ip
 is_Ip = rolled type.Ip r.Ip rolls-Ip_type
 
-is_Entity : (name : List ℕ) → expanded nothing (type.Entity name) ≡ ty.Entity name
+is_Entity : (name : List ℕ) → expanded kinds nothing (type.Entity name) ≡ ty.Entity (kind_among kinds name)
 is_Entity name = rolled (type.Entity name) (r.Entity name) (rolls-Entity_type name)
 
-context_is : expanded nothing context_resolved ≡ context
+user_free : kind_among kinds (codes "User") ≡ free (codes "User")
+unfolding resolved_schema
+user_free = refl
+
+context_is : expanded kinds nothing context_resolved ≡ context
 unfolding context_fields
 context_is = rw (expanded_Record, is_Ip, is_Long, is_String, expanded_Set, is_Long, expanded_Set, is_Boolean) refl
 
-document_is : expanded nothing document_resolved ≡ document.shape
+document_is : expanded kinds nothing document_resolved ≡ document.shape
 unfolding document
-document_is = rw (expanded_Record, is_Entity) refl
+document_is = rw (expanded_Record, is_Entity, user_free) refl
 
-user_is : expanded nothing user_resolved ≡ user.shape
+user_is : expanded kinds nothing user_resolved ≡ user.shape
 unfolding user
-user_is = rw (expanded_Record, is_Long, is_Entity, is_String) refl
+user_is = rw (expanded_Record, is_Long, is_Entity, user_free, is_String) refl
 
 -- ---- how large they are
 
@@ -101,11 +109,11 @@ levels_Ip = ap levels (sym rolls-Ip) ∙ levels-roll t.Ip
 nodes_Ip : nodes ty.Ip ≡ 1
 nodes_Ip = ap nodes (sym rolls-Ip) ∙ nodes-roll t.Ip
 
-levels_Entity : (name : List ℕ) → levels (ty.Entity name) ≡ 1
-levels_Entity name = ap levels (sym (rolls-Entity name)) ∙ levels-roll (t.Entity name)
+levels_Entity : (kind : EntityKind) → levels (ty.Entity kind) ≡ 1
+levels_Entity kind = ap levels (sym (rolls-Entity kind)) ∙ levels-roll (t.Entity kind)
 
-nodes_Entity : (name : List ℕ) → nodes (ty.Entity name) ≡ 1
-nodes_Entity name = ap nodes (sym (rolls-Entity name)) ∙ nodes-roll (t.Entity name)
+nodes_Entity : (kind : EntityKind) → nodes (ty.Entity kind) ≡ 1
+nodes_Entity kind = ap nodes (sym (rolls-Entity kind)) ∙ nodes-roll (t.Entity kind)
 
 context_levels : levels context ≡ 3
 unfolding context_fields
@@ -160,11 +168,11 @@ pub no_types : IsOrder resolved_schema []
 unfolding resolved_schema
 no_types = record { all = tt; leads_back = λ i h. absurd (omega arith) }
 
-meaning : IsMeaning (body_of resolved_schema) nothing
+meaning : IsMeaning kinds (body_of resolved_schema) nothing
 unfolding resolved_schema body_among
 meaning name body is = cc
 
-no_type_fault : first_fault (fault_of nothing) resolved_schema ≡ None
+no_type_fault : first_fault (fault_of kinds nothing) resolved_schema ≡ None
 unfolding resolved_schema
 no_type_fault = rw (context_is, context_record, context_small, document_is, document_record, document_small, user_is, user_record, user_small) refl
 

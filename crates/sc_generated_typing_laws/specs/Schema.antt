@@ -6,6 +6,7 @@ use Rattle.sc_schema.specs.Declarations.{Declarations}
 use Rattle.sc_schema.specs.declared.declarations.Action.{Action}
 use Rattle.sc_schema.specs.declared.declarations.EntityType.{EntityType}
 use Rattle.sc_schema.specs.declared.declarations.Env.{Env}
+use Rattle.sc_schema.specs.declared.ty.EntityKind.{EntityKind}
 use Rattle.sc_schema.specs.declared.ty.Presence.{Presence}
 use Rattle.sc_schema.specs.declared.ty.Presence.TheVariants.{Required, Optional}
 use Rattle.sc_schema.specs.declared.ty.Ty.{Ty}
@@ -43,8 +44,12 @@ tree =
 
 -- ---- what it declares
 
+-- a type of entities that isn't enumerated, as none is
+abbrev pub free : List ℕ → EntityKind
+free name = record { name = name; choices = [] }
+
 abbrev pub entity : List ℕ → Ty
-entity name = ty.Entity name
+entity name = ty.Entity (free name)
 
 unfoldable pub context_fields : List (List ℕ × Presence × Ty)
 context_fields =
@@ -64,10 +69,17 @@ document = record {
   ancestors = [];
   shape = ty.Record ((codes "owner", Required, entity (codes "User")) ∷ []);
   tags = None;
+  choices = [];
 }
 
 unfoldable pub group : EntityType
-group = record { name = codes "Group"; ancestors = codes "Group" ∷ []; shape = ty.Record []; tags = None }
+group = record {
+  name = codes "Group";
+  ancestors = codes "Group" ∷ [];
+  shape = ty.Record [];
+  tags = None;
+  choices = [];
+}
 
 unfoldable pub user : EntityType
 user = record {
@@ -77,6 +89,7 @@ user = record {
       ((codes "age", Required, ty.Long) ∷ (codes "boss", Required, entity (codes "User"))
       ∷ (codes "nick", Optional, ty.String) ∷ []);
   tags = None;
+  choices = [];
 }
 
 unfoldable pub viewing : Action

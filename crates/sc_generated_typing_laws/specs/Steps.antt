@@ -45,9 +45,15 @@ written_schema = record {
     } ∷ [];
     common_types = [];
     entity_types =
-        record { name = codes "Doc"; parents = []; shape = Some document_written; tags = None }
-        ∷ record { name = codes "Group"; parents = codes "Group" ∷ []; shape = None; tags = None }
-        ∷ record { name = codes "User"; parents = codes "Group" ∷ []; shape = Some user_written; tags = None } ∷ [];
+        record { name = codes "Doc"; parents = []; shape = Some document_written; tags = None; choices = [] }
+        ∷ record { name = codes "Group"; parents = codes "Group" ∷ []; shape = None; tags = None; choices = [] }
+        ∷ record {
+          name = codes "User";
+          parents = codes "Group" ∷ [];
+          shape = Some user_written;
+          tags = None;
+          choices = [];
+        } ∷ [];
   } ∷ [];
 }
 
@@ -85,14 +91,29 @@ resolved_schema = record {
     } ∷ [];
     common_types = [];
     entity_types =
-        record { key = codes "Doc"; name = codes "Doc"; parents = []; shape = Some document_resolved; tags = None }
-        ∷ record { key = codes "Group"; name = codes "Group"; parents = codes "Group" ∷ []; shape = None; tags = None }
+        record {
+          key = codes "Doc";
+          name = codes "Doc";
+          parents = [];
+          shape = Some document_resolved;
+          tags = None;
+          choices = [];
+        }
+        ∷ record {
+          key = codes "Group";
+          name = codes "Group";
+          parents = codes "Group" ∷ [];
+          shape = None;
+          tags = None;
+          choices = [];
+        }
         ∷ record {
           key = codes "User";
           name = codes "User";
           parents = codes "Group" ∷ [];
           shape = Some user_resolved;
           tags = None;
+          choices = [];
         } ∷ [];
   } ∷ [];
 }
@@ -100,13 +121,25 @@ resolved_schema = record {
 -- ---- with types written out
 
 unfoldable pub document_expanded : ExpandedEntityType
-document_expanded = record { name = codes "Doc"; parents = []; shape = document.shape; tags = None }
+document_expanded = record { name = codes "Doc"; parents = []; shape = document.shape; tags = None; choices = [] }
 
 unfoldable pub group_expanded : ExpandedEntityType
-group_expanded = record { name = codes "Group"; parents = codes "Group" ∷ []; shape = group.shape; tags = None }
+group_expanded = record {
+  name = codes "Group";
+  parents = codes "Group" ∷ [];
+  shape = group.shape;
+  tags = None;
+  choices = [];
+}
 
 unfoldable pub user_expanded : ExpandedEntityType
-user_expanded = record { name = codes "User"; parents = codes "Group" ∷ []; shape = user.shape; tags = None }
+user_expanded = record {
+  name = codes "User";
+  parents = codes "Group" ∷ [];
+  shape = user.shape;
+  tags = None;
+  choices = [];
+}
 
 unfoldable pub viewing_expanded : ExpandedAction
 viewing_expanded = record {

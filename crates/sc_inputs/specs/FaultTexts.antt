@@ -62,6 +62,7 @@ world_fault_text (world.BadWorld path) = on_path (codes "BadWorld") path
 abbrev pub kind_name : NameKind → List ℕ
 kind_name kind.UnknownEntityType = codes "UnknownEntityType"
 kind_name kind.UnknownAction = codes "UnknownAction"
+kind_name kind.UnknownChoice = codes "UnknownChoice"
 
 -- a name that isn't declared: the policy that writes it, what it stands for, and its place
 unfoldable pub name_fault_text : NameFault → List ℕ

@@ -105,6 +105,7 @@ fn kind_name(kind: NameKind) -> &'static [u8]
     match kind {
         NameKind::UnknownEntityType => b"UnknownEntityType",
         NameKind::UnknownAction => b"UnknownAction",
+        NameKind::UnknownChoice => b"UnknownChoice",
     }
 }
 

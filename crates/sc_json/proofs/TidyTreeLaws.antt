@@ -1,4 +1,5 @@
--- In the tree of a text in UTF-8 the names of an object's members ascend by their bytes, each once, and are UTF-8.
+-- In the tree of a text in UTF-8 the names of an object's members ascend by their bytes, each once, and they and the
+-- strings are UTF-8.
 use Rattle.std.proofs.Common.{◌≡◌, ℕ, List, [], ◌∷◌, ◌++◌, Option, Some, None, Ordering, Less, Equal, Greater, IsUtf8, refl, sym, ap, subst}
 use Rattle.std.specs.Prelude.{⊤, option_map, option_and_then}
 use Rattle.std.specs.Ordering.{nat_cmp, match_ordering}
@@ -89,7 +90,7 @@ mutual
   tidy-json json.null t = tt
   tidy-json (json.boolean b) t = tt
   tidy-json (json.number s) t = mapped (λ _. ⊤) IsTidy number (λ _ _. tt) (number_of s) (anything (number_of s))
-  tidy-json (json.string s) t = tt
+  tidy-json (json.string s) t = t.0
   tidy-json (json.array js) t = mapped AreTidyItems IsTidy array (λ _ h. h) (of_items js) (tidy-items js t.1)
   tidy-json (json.object ms) t = mapped AreTidyAll IsTidy object (λ _ h. h) (of_members ms no_members) (tidy-members ms no_members t.1 (object-none, tt))
 

@@ -20,26 +20,30 @@ items_next vs n x here within =
 pub items_end : (vs : List Value) (n : ℕ) → length vs ≤ n → items_view (drop n vs) ≡ no_items
 items_end vs n beyond = ap (λ (ws : List Value). items_view ws) (drop_all n vs beyond)
 
--- a walk over the items from a number on, which asks each for its fault
-pub record IsItemsWalk {F : Type 0} (under : List ℕ → F → F) (fault_of : Data → Option F) (walk : ℕ → Items → Option F) : Type 0 where
+-- a walk over the items from a number on, which asks each with its number for its fault
+pub record IsNumberedWalk {F : Type 0} (under : List ℕ → F → F) (fault_of : ℕ → Data → Option F) (walk : ℕ → Items → Option F) : Type 0 where
   pub end : (n : ℕ) → walk n no_items ≡ None
-  pub next : (n : ℕ) (d : Data) (ds : Items) → walk n (item d ds) ≡ option_or (option_map (under (decimal n)) (fault_of d)) (walk (n + 1) ds)
+  pub next : (n : ℕ) (d : Data) (ds : Items) → walk n (item d ds) ≡ option_or (option_map (under (decimal n)) (fault_of n d)) (walk (n + 1) ds)
 
-module _ {F : Type 0} {under : List ℕ → F → F} {fault_of : Data → Option F} {walk : ℕ → Items → Option F} (is : IsItemsWalk under fault_of walk) where
+-- the same where the number doesn't matter
+abbrev pub IsItemsWalk : {F : Type 0} → (List ℕ → F → F) → (Data → Option F) → (ℕ → Items → Option F) → Type 0
+IsItemsWalk under fault_of walk = IsNumberedWalk under (λ n. fault_of) walk
+
+module _ {F : Type 0} {under : List ℕ → F → F} {fault_of : ℕ → Data → Option F} {walk : ℕ → Items → Option F} (is : IsNumberedWalk under fault_of walk) where
   from_here : (vs : List Value) (n : ℕ) (x : Value) (o : Option F) → x ≡ get_or vs n x → n < length vs
-      → walk 0 (items_view vs) ≡ walk n (items_view (drop n vs)) → o ≡ fault_of (view x)
+      → walk 0 (items_view vs) ≡ walk n (items_view (drop n vs)) → o ≡ fault_of n (view x)
       → walk 0 (items_view vs) ≡ option_or (option_map (under (decimal n)) o) (walk (n + 1) (items_view (drop (n + 1) vs)))
   from_here vs n x o here within rest told =
       rest ∙ (ap (walk n) (items_next vs n x here within) ∙ (is.next n (view x) (items_view (drop (n + 1) vs))
       ∙ ap (λ (f : Option F). option_or (option_map (under (decimal n)) f) (walk (n + 1) (items_view (drop (n + 1) vs)))) (sym told)))
 
   pub fault_of_item : (vs : List Value) (n : ℕ) (x : Value) (fault : F) → x ≡ get_or vs n x → n < length vs
-      → walk 0 (items_view vs) ≡ walk n (items_view (drop n vs)) → Some fault ≡ fault_of (view x)
+      → walk 0 (items_view vs) ≡ walk n (items_view (drop n vs)) → Some fault ≡ fault_of n (view x)
       → Some (under (decimal n) fault) ≡ walk 0 (items_view vs)
   fault_of_item vs n x fault here within rest told = sym (from_here vs n x (Some fault) here within rest told)
 
   pub no_fault_of_item : (vs : List Value) (n : ℕ) (x : Value) → x ≡ get_or vs n x → n < length vs
-      → walk 0 (items_view vs) ≡ walk n (items_view (drop n vs)) → None ≡ fault_of (view x)
+      → walk 0 (items_view vs) ≡ walk n (items_view (drop n vs)) → None ≡ fault_of n (view x)
       → walk 0 (items_view vs) ≡ walk (n + 1) (items_view (drop (n + 1) vs))
   no_fault_of_item vs n x here within rest told = from_here vs n x None here within rest told
 

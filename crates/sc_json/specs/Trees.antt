@@ -45,7 +45,7 @@ abbrev mutual
   IsTidy null = ⊤
   IsTidy (boolean truth) = ⊤
   IsTidy (number n) = ⊤
-  IsTidy (string text) = ⊤
+  IsTidy (string text) = IsUtf8 text
   IsTidy (array items) = AreTidyItems items
   IsTidy (object members) = IsTidyObject members × AreTidyMembers members
 

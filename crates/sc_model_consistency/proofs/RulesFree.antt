@@ -25,7 +25,7 @@ use Rattle.sc_rule_laws.specs.Terms.{fields_of, member, subset, common, members,
 use Rattle.sc_rule_laws.specs.Equal.{eq1, eq2, eq3_of, field_at, eq3, eq4, eq5, eq6, eq7, eq8}
 use Rattle.sc_rule_laws.specs.Sets.{se1, se2, se3_of, se3, se4, se5, se6, se7, se8, se9_at, se9_of, se9, se10_at, se10_of, se10}
 use Rattle.sc_rule_laws.specs.Places.{roots, half_by, under}
-use Rattle.sc_rule_laws.specs.Entities.{en1_of, en1, en2, en3_of, en3, en4, en5, en6, en7, en8}
+use Rattle.sc_rule_laws.specs.Entities.{en1_of, en1, en2, en3_of, en3, en4, en5, en6, en7, en8, eq9}
 use Rattle.sc_rule_instances.specs.Instances.{on_one, on_two, on_three, on_four, equal_said, set_said, entity_said, equal_of, set_of, entity_of}
 use Rattle.sc_rule_instances.specs.Known.{is_falsified}
 use Rattle.sc_rule_instances.specs.Names.{numbers_of, equal_named, equal_rule, set_named, set_rule, entity_named, entity_rule}
@@ -34,7 +34,7 @@ use Rattle.sc_rule_instances.specs.declared.rule.EqualRule.TheVariants.{Eq1, Eq2
 use Rattle.sc_rule_instances.specs.declared.rule.SetRule.{SetRule}
 use Rattle.sc_rule_instances.specs.declared.rule.SetRule.TheVariants.{Se1, Se2, Se3, Se4, Se5, Se6, Se7, Se8, Se9, Se10}
 use Rattle.sc_rule_instances.specs.declared.rule.EntityRule.{EntityRule}
-use Rattle.sc_rule_instances.specs.declared.rule.EntityRule.TheVariants.{En1, En2, En3, En4, En5, En6, En7, En8}
+use Rattle.sc_rule_instances.specs.declared.rule.EntityRule.TheVariants.{En1, En2, En3, En4, En5, En6, En7, En8, Eq9}
 use Rattle.sc_rule_instances.proofs.RulesHold.{term_closed}
 use Rattle.sc_model_consistency.specs.Laws.{HasSmallPlaces}
 use Rattle.sc_model_consistency.proofs.NumberLaws.{IsSmall, zero_small, one_small, two_small, none_less, words_small, number_small, fields_within, members_within, past_places, never_place}
@@ -335,3 +335,4 @@ module _ (p : Posed) (posed : IsPosed p) (places : HasSmallPlaces p) (m : Assign
     entities_free (En6 a) = one_free a en6 (λ x. of_entities (codes "EN6") (a ∷ []) (En6 a) (x, tt) refl)
     entities_free (En7 s x) = two_free s x (en7 p.schema) (λ a b. of_entities (codes "EN7") (s ∷ x ∷ []) (En7 s x) (a, (b, tt)) refl)
     entities_free (En8 x) = one_free x (en8 p.schema) (λ a. of_entities (codes "EN8") (x ∷ []) (En8 x) (a, tt) refl)
+    entities_free (Eq9 x) = one_free x (eq9 p.schema) (λ a. of_entities (codes "EQ9") (x ∷ []) (Eq9 x) (a, tt) refl)

@@ -1,5 +1,5 @@
 -- An entity of a type of actions is a declared one, and what a model has under its ancestors of a type are the declared ones.
-use Rattle.std.proofs.Common.{◌≡◌, ◌↔◌, ◌==◌, inl, cond, ℕ, Bool, true, false, not, List, [], ◌∷◌, map, length, Option, Some, option_map, unwrap_or, Contains, refl, sym, ap, ◌∙◌, subst}
+use Rattle.std.proofs.Common.{◌≡◌, ◌↔◌, inl, cond, ℕ, Bool, true, false, List, [], ◌∷◌, map, Option, Some, option_map, unwrap_or, Contains, refl, sym, ap, ◌∙◌, subst}
 use Rattle.std.specs.Ordering.{is_eq}
 use Rattle.std.proofs.lemmas.Cmp.{tied_itself}
 use Rattle.sc_lists.specs.Members.{Has}
@@ -14,7 +14,6 @@ use Rattle.sc_schema.specs.Declarations.{Declarations, action, action_uids, acti
 use Rattle.sc_schema.specs.Lawful.{IsLawful}
 use Rattle.sc_schema.proofs.LookupLaws.{action_found}
 use Rattle.sc_sorts.specs.declared.sort.Sort.{Sort, out-Sort}
-use Rattle.sc_sorts.specs.declared.sort.Sort.TheVariants as sort
 use Rattle.sc_sorts.specs.Entities.{of_type_name, choices_of, entity_sort}
 use Rattle.sc_sorts.specs.Inside.{name_in}
 use Rattle.sc_sorts.proofs.OutLaws.{out_Entity}
@@ -27,20 +26,20 @@ use Rattle.sc_terms.specs.TreeSorts.{tree_sort}
 use Rattle.sc_terms.specs.Folds.{literal_term, equal_term}
 use Rattle.sc_term_laws.proofs.ChoicesLaws.{chosen, no_actions}
 use Rattle.sc_term_laws.proofs.MemberLaws.{any_found}
-use Rattle.sc_term_laws.proofs.SortsLawful.{action_of}
-use Rattle.sc_term_laws.proofs.ToldLaws.{empty_is}
-use Rattle.sc_rule_laws.specs.Signed.{Signed, so, unless, given}
-use Rattle.sc_rule_laws.specs.Entities.{is_uid_in, is_literal_of, en7, en7_of, en7_by, en8, en8_of}
-use Rattle.sc_rule_laws.specs.Terms.{entity, choices_level}
+use Rattle.sc_term_laws.proofs.SortsLawful.{action_of, listed_below}
+use Rattle.sc_rule_laws.specs.Signed.{Signed, so, unless}
+use Rattle.sc_rule_laws.specs.Entities.{is_uid_in, is_literal_of, en7, en7_of, en7_by}
+use Rattle.sc_rule_laws.specs.Terms.{entity}
 use Rattle.sc_rule_laws.proofs.MemberLaws.{has_any}
 use Rattle.sc_closure_rules.specs.Closure.{Closed, uid_term}
 use Rattle.sc_model_laws.specs.Assignments.{lit}
-use Rattle.sc_model_laws.specs.Consistent.{of_en7, of_en8}
+use Rattle.sc_model_laws.specs.Consistent.{of_en7}
 use Rattle.sc_model_laws.specs.Vals.{Model, assigned}
 use Rattle.sc_model_laws.specs.Models.{IsModel}
 use Rattle.sc_model_laws.proofs.HoldLaws.{others, last, some_so}
 use Rattle.sc_model_laws.proofs.CompositeClaims.{all_so}
-use Rattle.sc_model_laws.proofs.ClosureLaws.{of_part, declared_closed, declared_member, entities_equation}
+use Rattle.sc_model_laws.proofs.ChosenLaws.{equated, told_uid, told_listed}
+use Rattle.sc_model_laws.proofs.ClosureLaws.{of_part, declared_closed, declared_member}
 use Rattle.sc_model_laws.proofs.EntityLaws.{OfAncestors, ancestors_sort, ruled, member_true, true_member, ancestors_move}
 use Rattle.sc_model_laws.proofs.FittingLaws.{AreMade, assigned_sorted}
 
@@ -61,35 +60,7 @@ literal_among : (us : List Uid) (x : Tree) → is_literal_of us x ≡ true → (
 literal_among us (leaf (leafs.Literal (literal.Entity u vs))) e = (u, vs, refl, uid_among us u e)
 literal_among us _ e = absurd cc
 
-some_are : (us : List Uid) → (us ≡ [] → ⊥) → not (length us == 0) ≡ true
-some_are us h = by (length us == 0) refl where
-  by : (b : Bool) → (length us == 0) ≡ b → not b ≡ true
-  by true e = absurd (h (empty_is us e))
-  by false e = refl
-
-uid_sort : (us : List Uid) (u : Uid) → tree_sort (uid_term us u) ≡ sort.Entity u.type_name us
-unfolding tree_sort
-uid_sort us u = refl
-
 module _ (d : Declarations) (env : Env) (literals : List Uid) (goal : Tree) (made : AreMade d env literals goal) (m : Model) (model : IsModel d env goal m) (lawful : IsLawful d) where
-  entity_is : (name : List ℕ) (u : Uid) → u.type_name ≡ name → entity d u ≡ uid_term (choices_of d name) u
-  entity_is name u e = ap (λ (n : List ℕ). literal_term (literal.Entity u (choices_of d n))) e
-
-  entity_sorted : (name : List ℕ) (u : Uid) → u.type_name ≡ name → tree_sort (uid_term (choices_of d name) u) ≡ entity_sort d name
-  entity_sorted name u e = uid_sort (choices_of d name) u ∙ ap (λ (n : List ℕ). sort.Entity n (choices_of d name)) e
-
-  -- the equation of a term with a closed entity
-  equated : (name : List ℕ) (x : Tree) (u : Uid) → u.type_name ≡ name → tree_sort x ≡ entity_sort d name → Closed d env goal x → Closed d env goal (uid_term (choices_of d name) u)
-      → Closed d env goal (equal_term x (entity d u))
-  equated name x u n s c g =
-      subst (λ (t : Tree). Closed d env goal (equal_term x t)) (sym (entity_is name u n)) (entities_equation d env goal name (choices_of d name) x (uid_term (choices_of d name) u) s (entity_sorted name u n) c g)
-
-  told_uid : (name : List ℕ) (x : Tree) (u : Uid) → u.type_name ≡ name → tree_sort x ≡ entity_sort d name → Closed d env goal x → Closed d env goal (uid_term (choices_of d name) u)
-      → lit m.truths (equal_term x (entity d u)) ≡ true → m.uid x ≡ u
-  told_uid name x u n s c g t =
-      (model.uids name (choices_of d name) x (uid_term (choices_of d name) u) (c, s) (g, entity_sorted name u n)).1 (ap (λ (z : Tree). lit m.truths (equal_term x z)) (sym (entity_is name u n)) ∙ t)
-      ∙ model.literal_uid u (choices_of d name) g
-
   module _ (k : Sort) (e : Tree) (c : Closed d env goal (one (unary.Ancestors k) e)) (p : OfAncestors d env literals k e) (acts : is_action_type d p.name ≡ true) where
     abbrev us : List Uid
     us = choices_of d p.name
@@ -106,19 +77,13 @@ module _ (d : Declarations) (env : Env) (literals : List Uid) (goal : Tree) (mad
     -- ---- it is declared
 
     pub is_declared : Has (choices_of d p.name) (m.uid e)
-    is_declared =
-        let parts : List Signed = map (λ u. so (equal_term e (entity d u))) (choices_of d p.name) in
-        let listed : en8 d e ≡ en8_of d e (choices_of d p.name) = ap (en8_of d e) (ap choices_level (ap out-Sort p.sorted ∙ out_Entity p.name (choices_of d p.name))) in
-        let some = some_are (choices_of d p.name) (λ none. let both : true ≡ false = sym acts ∙ no_actions d p.name none in cc) in
-        let said : en8 d e ≡ Some parts = listed ∙ ap (λ (b : Bool). given b parts) some in
-        let found = some_so m.truths (λ u. equal_term e (entity d u)) (choices_of d p.name)
-        (ruled d env literals goal made m model (en8 d e) parts (of_en8 e whole) said
-        (all_so (Closed d env goal) (λ u. equal_term e (entity d u)) (choices_of d p.name)
-        (λ u h. equated p.name e u (named_choice p.name (action_uids d) u h).1 p.sorted whole (uid_closed u h)))) in
-        subst (Has (choices_of d p.name)) (sym (told_uid p.name e found.0 (named_choice p.name (action_uids d) found.0 found.1).1 p.sorted whole (uid_closed found.0 found.1) found.2)) found.1
+    is_declared = told_listed d env goal m model p.name e p.sorted whole uid_closed (λ none. let both : true ≡ false = sym acts ∙ no_actions d p.name none in cc)
+
+    declared_one : (u : Uid) → Has (choices_of d p.name) u → Contains (action_uids d) u
+    declared_one u h = (listed_below d lawful p.name p.above p.names p.declared p.among u (Contains-from_Has (choices_of d p.name) u h)).among
 
     pub is_action : Contains (action_uids d) (m.uid e)
-    is_action = (named_choice p.name (action_uids d) (m.uid e) is_declared).0
+    is_action = declared_one (m.uid e) is_declared
 
     -- ---- its ancestors
 
@@ -131,7 +96,7 @@ module _ (d : Declarations) (env : Env) (literals : List Uid) (goal : Tree) (mad
 
       ups_are : (us : List Uid) × (action_ancestors d u ≡ Some us)
       ups_are =
-          let a = action_of d lawful u (named_choice p.name (action_uids d) u h).0 in
+          let a = action_of d lawful u (declared_one u h) in
           (a.0.ancestors, ap (option_map (λ (b : Action). b.ancestors)) (ap (action d) (sym a.2) ∙ action_found d a.0 lawful a.1))
 
       said_of : (x : Tree) → en7 d set x ≡ Some (en7_of d set above_uids x)
@@ -174,8 +139,8 @@ module _ (d : Declarations) (env : Env) (literals : List Uid) (goal : Tree) (mad
             let found = some_so m.truths (λ v. equal_term y (entity d v)) above_uids
             (others m.truths false (two binary.Member y set) rest
             (ruled d env literals goal made m model (en7 d set y) parts (of_en7 set y (action_closed u h) there.0) said
-            (t.0, all_so (Closed d env goal) (λ v. equal_term y (entity d v)) above_uids (λ v g. equated p.above y v (type_of v g) s there.0 (above_closed v g)))) t.1) in
-            subst (Has above_uids) (sym (told_uid p.above y found.0 (type_of found.0 found.1) s there.0 (above_closed found.0 found.1) found.2)) found.1
+            (t.0, all_so (Closed d env goal) (λ v. equal_term y (entity d v)) above_uids (λ v g. equated d env goal m model p.above y v (type_of v g) s there.0 (above_closed v g)))) t.1) in
+            subst (Has above_uids) (sym (told_uid d env goal m model p.above y found.0 (type_of found.0 found.1) s there.0 (above_closed found.0 found.1) found.2)) found.1
 
       is_listed : (v : Uid) → Has above_uids v → Has (assigned m set) (uid_term (choices_of d p.above) v)
       is_listed v g =

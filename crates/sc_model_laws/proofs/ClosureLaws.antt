@@ -13,14 +13,15 @@ use Rattle.sc_sorts.specs.Entities.{of_type_name, entity_sort}
 use Rattle.sc_sorts.specs.Inside.{SortField, SortFields}
 use Rattle.sc_sorts.specs.OrderLaws.{sort_eq_decides}
 use Rattle.sc_sorts.proofs.OutLaws.{out_String, out_Entity, out_Set, out_Record, out_Option}
+use Rattle.sc_sorts.specs.declared.node.Literal.{Literal}
 use Rattle.sc_sorts.specs.declared.node.UnaryOp.TheVariants as unary
 use Rattle.sc_sorts.specs.declared.node.BinaryOp.TheVariants as binary
 use Rattle.sc_terms.specs.Trees.{Tree, one, two}
 use Rattle.sc_terms.specs.TreeSorts.{tree_sort}
-use Rattle.sc_terms.specs.Folds.{equal_term, field_term, held_term, default_term}
+use Rattle.sc_terms.specs.Folds.{literal_of, equal_term, field_term, held_term, default_term}
 use Rattle.sc_term_definitions.specs.Definitions.{inputs_of}
 use Rattle.sc_rule_laws.specs.Terms.{one_sort, choices_in, written}
-use Rattle.sc_closure_rules.specs.Closure.{Closed, next, pair, Role, named, candidate, set, above, inside, inside_by, choices, beside, parts, follow, follow_pair, half, meet, roles, roles_by, roles_in, unless_written, equated_by, members_by, are_linked, is_under, ancestors_by, ancestors_of, declared_ancestors, declared_members, uid_term}
+use Rattle.sc_closure_rules.specs.Closure.{Closed, next, pair, choices_by, unless_literal, Role, named, candidate, set, above, inside, inside_by, choices, beside, parts, follow, follow_pair, half, meet, roles, roles_by, roles_in, unless_written, equated_by, members_by, are_linked, is_under, ancestors_by, ancestors_of, declared_ancestors, declared_members, uid_term}
 use Rattle.sc_closure_rules.proofs.RoleLaws.{has_half}
 
 module _ (d : Declarations) (env : Env) (goal : Tree) where
@@ -45,6 +46,14 @@ module _ (d : Declarations) (env : Env) (goal : Tree) where
   of_part x y c h =
       later x y c (Has-right (inside x) (choices x ++ (beside d x ++ parts x)) y
       (Has-right (choices x) (beside d x ++ parts x) y (Has-right (beside d x) (parts x) y h)))
+
+  -- the entities that its sort lists, of one that isn't written
+  pub choice_closed : (name : List ℕ) (us : List Uid) (x : Tree) (u : Uid) → tree_sort x ≡ sort.Entity name us → literal_of x ≡ None → Closed d env goal x → Has us u → Closed d env goal (uid_term us u)
+  choice_closed name us x u e plain c h =
+      let t = uid_term us u in
+      let there : Has (choices_by (out-Sort (tree_sort x))) t = subst (λ (l : Sort-F Sort). Has (choices_by l) t) (sym (ap out-Sort e ∙ out_Entity name us)) (Has-map (uid_term us) us u h) in
+      later x t c (Has-right (inside x) (choices x ++ (beside d x ++ parts x)) t
+      (Has-left (choices x) (beside d x ++ parts x) t (subst (λ (o : Option Literal). Has (unless_literal o (choices_by (out-Sort (tree_sort x)))) t) (sym plain) there)))
 
   inside_at : (x y : Tree) (k : Sort) (l : Sort-F Sort) → tree_sort x ≡ k → out-Sort k ≡ l → IsClosed x → Has (inside_by l x) y → IsClosed y
   inside_at x y k l e o c h = of_inside x y c (subst (λ (z : Sort-F Sort). Has (inside_by z x) y) (sym (ap out-Sort e ∙ o)) h)

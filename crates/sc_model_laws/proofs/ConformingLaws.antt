@@ -4,6 +4,7 @@ use Rattle.std.specs.Cmp.Derive.{both_true}
 use Rattle.std.specs.List.{AllByRecursion, list_all, list_any}
 use Rattle.std.specs.Str.{bytes_eq}
 use Rattle.sc_laws.proofs.BoolLaws.{and_first, and_second}
+use Rattle.sc_schema.specs.declared.ty.EntityKind.{EntityKind}
 use Rattle.sc_schema.specs.declared.ty.Presence.{Presence}
 use Rattle.sc_schema.specs.declared.ty.Presence.TheVariants.{Required, Optional}
 use Rattle.sc_schema.specs.declared.ty.Ty.{Ty, Ty-F, roll-Ty, map-Ty, ind-Ty}
@@ -14,16 +15,17 @@ use Rattle.sc_schema.proofs.EveryTypeLaws as of_type
 use Rattle.sc_values.specs.declared.value.Value.{Value, Value-F, out-Value}
 use Rattle.sc_values.specs.declared.value.Value.TheOpen as v
 use Rattle.sc_values.specs.Records.{Fields, field}
-use Rattle.sc_world.specs.Conforms.{Test, is_record_of, passes, conforms, conforms_step}
+use Rattle.sc_world.specs.Conforms.{Test, is_entity_of, is_record_of, passes, conforms, conforms_step}
 use Rattle.sc_sorts.specs.declared.sort.Sort.{Sort}
 use Rattle.sc_sorts.specs.declared.sort.Sort.TheVariants as sort
 use Rattle.sc_sorts.specs.declared.sort.Sort.TheVariants.{rolls-Bool, rolls-Long, rolls-String, rolls-Decimal, rolls-Ip, rolls-Entity, rolls-Set, rolls-Record}
 use Rattle.sc_sorts.specs.declared.sort.Sort.TheOpen as s
+use Rattle.sc_sorts.specs.Entities.{uids_of}
 use Rattle.sc_sorts.specs.OfTypes.{sort_of, with_presence}
 use Rattle.sc_term_laws.specs.Fitting.{Seen, fits_step, fits}
 use Rattle.sc_term_laws.specs.Fitting as fit
 use Rattle.sc_term_laws.proofs.DefaultTypeLaws.{no_option}
-use Rattle.sc_term_laws.proofs.FitLaws.{seen, seen_fits, seen_Option, seen_option, sort_roll, sights_of, conforms_roll, set_so}
+use Rattle.sc_term_laws.proofs.FitLaws.{kind_of_uids, seen, seen_fits, seen_Option, seen_option, sort_roll, sights_of, conforms_roll, set_so}
 use Rattle.sc_term_laws.proofs.FitVals.{fits_at}
 
 module _ (d : Declarations) where
@@ -93,8 +95,10 @@ module _ (d : Declarations) where
   inner t.String = back_at t.String sort.String (fits_step s.String) (sort_roll t.String) (fits_at sort.String s.String rolls-String) (λ l x h. h)
   inner t.Decimal = back_at t.Decimal sort.Decimal (fits_step s.Decimal) (sort_roll t.Decimal) (fits_at sort.Decimal s.Decimal rolls-Decimal) (λ l x h. h)
   inner t.Ip = back_at t.Ip sort.Ip (fits_step s.Ip) (sort_roll t.Ip) (fits_at sort.Ip s.Ip rolls-Ip) (λ l x h. h)
-  inner (t.Entity name) =
-      back_at (t.Entity name) (sort.Entity name []) (fits_step (s.Entity name [])) (sort_roll (t.Entity name)) (fits_at (sort.Entity name []) (s.Entity name []) (rolls-Entity name [])) (λ l x h. h)
+  inner (t.Entity kind) =
+      let us = uids_of kind in
+      back_at (t.Entity kind) (sort.Entity kind.name us) (fits_step (s.Entity kind.name us)) (sort_roll (t.Entity kind)) (fits_at (sort.Entity kind.name us) (s.Entity kind.name us) (rolls-Entity kind.name us))
+      (λ l x h. ap (λ (k : EntityKind). is_entity_of k (out-Value x)) (sym (kind_of_uids kind)) ∙ h)
   inner (t.Set a) =
       let k = sort_of a.0 in
       back_at (t.Set a.0) (sort.Set k) (fits_step (s.Set (seen k))) (sort_roll (t.Set a.0)) (fits_at (sort.Set k) (s.Set k) (rolls-Set k))

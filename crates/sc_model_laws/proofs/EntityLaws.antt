@@ -30,8 +30,8 @@ use Rattle.sc_terms.specs.Values.{default_val}
 use Rattle.sc_terms.proofs.OrderLaws.{tree_eq-itself}
 use Rattle.sc_term_laws.specs.Judging.{IsTermOf}
 use Rattle.sc_term_laws.specs.Judging as judged
-use Rattle.sc_term_laws.proofs.ChoicesLaws.{no_choices}
 use Rattle.sc_term_laws.proofs.JudgingLaws.{sort_is}
+use Rattle.sc_term_laws.proofs.SortsLawful.{below_lists}
 use Rattle.sc_rule_laws.specs.Signed.{Signed, Said, so, unless, given}
 use Rattle.sc_rule_laws.specs.Terms.{one_sort, choices_in, choices_level}
 use Rattle.sc_rule_laws.specs.Sets.{se1}
@@ -343,10 +343,12 @@ module _ (d : Declarations) (env : Env) (literals : List Uid) (goal : Tree) (mad
 
     -- ---- ancestors of ancestors
 
-    -- an entity that is no action is of a type that lists none
-    no_listed : (name : List ℕ) (e : Tree) → tree_sort e ≡ entity_sort d name → is_action_type d name ≡ false → (length (choices_in e) == 0) ≡ true
-    no_listed name e s n =
-        ap (λ (us : List Uid). length us == 0) (ap (λ (j : Sort). choices_level (out-Sort j)) s ∙ ap choices_level (out_Entity name (choices_of d name)) ∙ no_choices d name n)
+    -- an entity with ancestors that is no action is of a type that lists none
+    no_listed : (name above : List ℕ) (names : List (List ℕ)) (e : Tree) → ancestor_types d name ≡ Some names → Contains names above → tree_sort e ≡ entity_sort d name → is_action_type d name ≡ false
+        → (length (choices_in e) == 0) ≡ true
+    no_listed name above names e types among s n =
+        ap (λ (us : List Uid). length us == 0)
+        (ap (λ (j : Sort). choices_level (out-Sort j)) s ∙ ap choices_level (out_Entity name (choices_of d name)) ∙ below_lists d lawful name above names types among n)
 
     pub transitive : (k l : Sort) (e y f z : Tree) → is_action_type d (m.uid e).type_name ≡ false → Closed d env goal (one (unary.Ancestors k) e) → Has (assigned m (one (unary.Ancestors k) e)) y
         → Closed d env goal (one (unary.Ancestors l) f) → Has (assigned m (one (unary.Ancestors l) f)) z → m.uid y ≡ m.uid f
@@ -369,7 +371,7 @@ module _ (d : Declarations) (env : Env) (literals : List Uid) (goal : Tree) (mad
         let g = entity_member d env goal k l e f c i s in
         let same : two binary.Member f (one (unary.Ancestors k) e) ≡ two binary.Member f (one (unary.Ancestors (tree_sort f)) e) = ap (λ (j : Sort). two binary.Member f (one (unary.Ancestors j) e)) (sym s) in
         let t = member_true (one (unary.Ancestors l) f) z b in
-        let after = ancestor_member d env goal k l z e f t.0 c s (no_listed p.name e p.sorted no_action) in
+        let after = ancestor_member d env goal k l z e f t.0 c s (no_listed p.name p.above p.names e p.declared p.among p.sorted no_action) in
         let parts : List Signed = unless (two binary.Member f (one (unary.Ancestors (tree_sort f)) e)) ∷ unless (two binary.Member z (one (unary.Ancestors l) f)) ∷ so (two binary.Member z (one (unary.Ancestors l) e)) ∷ [] in (
           whole,
           true_member (one (unary.Ancestors l) e) z after

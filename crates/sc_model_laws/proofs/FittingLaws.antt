@@ -56,6 +56,7 @@ use Rattle.sc_closure_rules.proofs.SortLaws.{sort_lawful, found}
 use Rattle.sc_model_laws.specs.Assignments.{Assignment, lit}
 use Rattle.sc_model_laws.specs.Vals.{Model, member_in, assigned, elements, bits_of, held_by, val_of}
 use Rattle.sc_model_laws.specs.Models.{IsModel}
+use Rattle.sc_model_laws.proofs.ChosenLaws.{uid_choice}
 use Rattle.sc_model_laws.proofs.ClosedLaws.{standing_closed}
 use Rattle.sc_model_laws.specs.ValueLaws.{AreNamesIn}
 use Rattle.sc_model_laws.proofs.ClosureLaws.{of_part, field_closed, held_closed}
@@ -175,7 +176,7 @@ module _ (d : Declarations) (env : Env) (literals : List Uid) (goal : Tree) (mad
       on_entity name us x c e =
           subst (Fits d es (sort.Entity name us)) (sym (entity_val m name us x))
           (as_value (value.Entity (m.uid x)) (no_option_at (sort.Entity name us) (s.Entity name us) (out_Entity name us) refl)
-          (entity_of d es name us (m.uid x) (model.typed name us x e) (uid_text name us x c e) (inl (named.stored x c))))
+          (entity_of d es name us (m.uid x) (model.typed name us x e) (uid_choice d env goal m model literals made lawful is name us x c e) (uid_text name us x c e) (inl (named.stored x c))))
 
       on_set : (k : Sort) → IsFit k → IsFit (sort.Set k)
       on_set k known x c e =

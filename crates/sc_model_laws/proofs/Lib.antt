@@ -30,6 +30,7 @@ mod Examples
 pub mod ConformingLaws
 pub mod ClosureLaws
 pub mod SortedVals
+pub mod ChosenLaws
 pub mod FittingLaws
 pub mod DefaultLaws
 pub mod LinkLaws

@@ -40,7 +40,7 @@ use Rattle.sc_rule_laws.proofs.SetSound.{se1_holds, se3_holds, se4_holds, se5_ho
 use Rattle.sc_rule_laws.proofs.WrittenSound.{se9_holds, se10_holds}
 use Rattle.sc_rule_laws.proofs.EntitySound.{en1_holds, en2_holds, en3_holds}
 use Rattle.sc_rule_laws.proofs.StringSound.{st1_holds}
-use Rattle.sc_rule_laws.proofs.TermsHold.{eq3_true, eq4_true, eq7_true, se2_true, se8_true, en4_true, en5_true, en6_true, en7_true, en8_true, st3_true}
+use Rattle.sc_rule_laws.proofs.TermsHold.{eq3_true, eq4_true, eq7_true, se2_true, se8_true, en4_true, en5_true, en6_true, en7_true, en8_true, eq9_true, st3_true}
 use Rattle.sc_closure_rules.specs.Closure.{Closed}
 use Rattle.sc_model_laws.specs.Assignments.{lit, some_hold}
 use Rattle.sc_model_laws.specs.Consistent as rule
@@ -122,6 +122,7 @@ module _ (d : Declarations) (env : Env) (literals : List Uid) (goal : Tree) (ter
   rule_holds _ (rule.of_en6 a c) = en6_true d env literals w lawful well a (terms.made a c)
   rule_holds _ (rule.of_en7 y x c e) = en7_true d env literals w lawful well y x
   rule_holds _ (rule.of_en8 x c) = en8_true d env literals w lawful well x (terms.made x c)
+  rule_holds _ (rule.of_eq9 x c) = eq9_true d env literals w lawful well x (terms.made x c)
   rule_holds _ (rule.of_st1 qs a b i c e) = st1_holds w qs a b i
   rule_holds _ (rule.of_st3 qs signs ts c few) = st3_true d env literals w lawful well qs signs ts (all_terms ts c) few
 

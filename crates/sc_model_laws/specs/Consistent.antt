@@ -13,7 +13,7 @@ use Rattle.sc_term_definitions.specs.Truths.{defined}
 use Rattle.sc_rule_laws.specs.Signed.{Signed, Said}
 use Rattle.sc_rule_laws.specs.Equal.{eq1, eq2, eq3, eq4, eq5, eq6, eq7, eq8}
 use Rattle.sc_rule_laws.specs.Sets.{se1, se2, se3, se4, se5, se6, se7, se8, se9, se10}
-use Rattle.sc_rule_laws.specs.Entities.{en1, en2, en3, en4, en5, en6, en7, en8}
+use Rattle.sc_rule_laws.specs.Entities.{en1, en2, en3, en4, en5, en6, en7, en8, eq9}
 use Rattle.sc_rule_laws.specs.Strings.{Pattern, Signs, AreFew, st1, st3}
 use Rattle.sc_closure_rules.specs.Closure.{Closed}
 use Rattle.sc_model_laws.specs.Assignments.{Assignment, lit, some_hold}
@@ -46,6 +46,7 @@ pub data IsRuleAt (d : Declarations) (Is : Tree → Type 0) : Said → Type 0 wh
   of_en6 : (a : Tree) → Is a → IsRuleAt d Is (en6 a)
   of_en7 : (s x : Tree) → Is s → Is x → IsRuleAt d Is (en7 d s x)
   of_en8 : (x : Tree) → Is x → IsRuleAt d Is (en8 d x)
+  of_eq9 : (x : Tree) → Is x → IsRuleAt d Is (eq9 d x)
   of_st1 : (qs : List Pattern) (a b : Tree) (i : ℕ) → Is a → Is b → IsRuleAt d Is (st1 qs a b i)
   of_st3 : (qs : List Pattern) (v : Signs) (ts : List Tree) → AllByRecursion Is ts → AreFew qs v (length ts)
       → IsRuleAt d Is (st3 qs v ts)

@@ -1,5 +1,6 @@
 -- The truth of a term is that of its literal.
-use Rattle.std.proofs.Common.{◌≡◌, ◌==◌, ℕ, Bool, true, false, not, cond, Option, Some, None, IfSome, refl, sym, ap, ◌∙◌, arith}
+use Rattle.std.proofs.Common.{◌≡◌, ◌==◌, ◌&&◌, ℕ, Bool, true, false, not, cond, Option, Some, None, IfSome, refl, sym, ap, ◌∙◌, arith}
+use Rattle.std.proofs.Math.Bool.{and_comm}
 use Rattle.std.proofs.lemmas.Bool.{eqb-true}
 use Rattle.sc_laws.proofs.BoolLaws.{not_not}
 use Rattle.sc_laws.proofs.OptionLaws.{same_some}
@@ -71,3 +72,7 @@ unfolding literal
 found_like p q a (Some n) l posed is some none = some ∙ ap (literal_in p) is.is
 found_like p q a None l posed is some none =
     none refl ∙ sym (ap positive (not_listed p (one (Like q) a) (not_in_table p (one (Like q) a) posed is)))
+
+-- of two tests the cheaper may come first
+pub both_exchanged : (a b r : Bool) → r ≡ (b && a) → r ≡ (a && b)
+both_exchanged a b r is = is ∙ and_comm b a

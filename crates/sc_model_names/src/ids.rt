@@ -82,15 +82,13 @@ fn literals_of(
 }
 
 /// Whether two terms of one sort are equal under an assignment.
+#[tactic(auto, using(crate::proofs::TruthLaws::both_exchanged))]
 fn is_same(problem: &Problem<'_>, m: &Assignment, x: u64, y: u64) -> bool
     requires x_in { x < length problem.now.nodes }
     requires y_in { y < length problem.now.nodes }
     ensures { result ≡ is_same_term (truth_in problem.now m.now) (tree problem.now.nodes x) (tree problem.now.nodes y) }
 {
-    if !is_one_sort(problem, x, y) {
-        return false;
-    }
-    is_equal(problem, m, x, y)
+    is_equal(problem, m, x, y) && is_one_sort(problem, x, y)
 }
 
 /// The id of an equal entity of the sort, if one has an id.

@@ -36,15 +36,14 @@ fn is_id(problem: &Problem<'_>, entries: &[(u64, Text)], x: u64, text: &Text) ->
     false
 }
 
+#[tactic(auto, using(crate::proofs::TruthLaws::both_exchanged))]
 fn is_id_of_sort(problem: &Problem<'_>, entry: &(u64, Text), x: u64, text: &Text) -> bool
     requires entry_in { entry.now.0 < length problem.now.nodes }
     requires x_in { x < length problem.now.nodes }
     ensures { result ≡ (one_sort (tree problem.now.nodes x) (tree problem.now.nodes entry.now.0)
         && bytes_eq entry.now.1 text.now) }
 {
-    let sorted = is_one_sort(problem, x, entry.0);
-    let same = entry.1.is_same(text);
-    sorted & same
+    entry.1.is_same(text) && is_one_sort(problem, x, entry.0)
 }
 
 /// The least number that is no id of a term's sort, in decimal.

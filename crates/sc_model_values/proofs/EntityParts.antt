@@ -1,5 +1,5 @@
 -- The rules of what is stored of entities speak of truth values, where they speak of terms.
-use Rattle.std.proofs.Common.{◌≡◌, ◌==◌, ℕ, Bool, true, false, not, List, [], ◌∷◌, map, length, Contains, if◌then◌else◌, Option, Some, None, refl, sym, ap, ◌∙◌}
+use Rattle.std.proofs.Common.{◌≡◌, ◌==◌, ◌&&◌, ℕ, Bool, true, false, not, List, [], ◌∷◌, map, length, Contains, if◌then◌else◌, Option, Some, None, refl, sym, ap, ◌∙◌}
 use Rattle.std.specs.List.{AllByRecursion}
 use Rattle.sc_laws.proofs.BoolLaws.{and_first, and_second, never}
 use Rattle.sc_lists.specs.Members.{Has}
@@ -33,7 +33,7 @@ use Rattle.sc_footprint.proofs.SortLaws.{sort_lawful}
 use Rattle.sc_rule_laws.specs.Signed.{Said, so, unless}
 use Rattle.sc_rule_laws.specs.Terms.{member, above, keys, entity, choices_level, choices_in}
 use Rattle.sc_rule_laws.specs.Places.{roots, half}
-use Rattle.sc_rule_laws.specs.Entities.{en1_of, en1, same_sets, en2, en3_of, en3, en4, en5, en6, is_literal_of, en7_by, en7, en8}
+use Rattle.sc_rule_laws.specs.Entities.{en1_of, en1, same_sets, en2, en3_of, en3, en4, en5, en6, is_literal_of, en7_by, en7, chosen_of, is_acting, en8, eq9}
 use Rattle.sc_model_values.proofs.PartSorts.{plain, plain_at, entity_plain, plain_equal, member_bool, same_equal, AreTruths, IsOfTruths, given_truths, mapped_truths}
 use Rattle.sc_model_values.proofs.SetParts.{of_member}
 use Rattle.sc_model_values.proofs.PlaceParts.{half_truths, under_truths}
@@ -167,9 +167,15 @@ module _ (d : Declarations) (env : Env) (written : List Uid) where
   choices_plain (s.Entity name us) x e u i = plain_at x (s.Entity name us) e refl
   choices_plain _ x e u i = absurd i
 
-  pub en8_truths : (x : Tree) → Truths (en8 d x)
-  en8_truths x = given_truths Is (not (length (choices_in x) == 0)) _ (λ t.
+  chosen_truths : (x : Tree) (asked : Bool) → Truths (chosen_of d x asked (choices_in x))
+  chosen_truths x asked = given_truths Is (asked && not (length (choices_in x) == 0)) _ (λ t.
       mapped_truths (λ u. so (equal_term x (entity d u))) (choices_in x) (λ u i. plain_equal x (entity d u) (choices_plain (out-Sort (tree_sort x)) x refl u i) refl))
+
+  pub en8_truths : (x : Tree) → Truths (en8 d x)
+  en8_truths x = chosen_truths x (is_acting d x)
+
+  pub eq9_truths : (x : Tree) → Truths (eq9 d x)
+  eq9_truths x = chosen_truths x (not (is_acting d x))
 
   -- ---- tags that an entity hasn't
 

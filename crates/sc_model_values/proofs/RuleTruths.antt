@@ -29,11 +29,11 @@ use Rattle.sc_rule_laws.specs.Signed.{Signed, Said, unless}
 use Rattle.sc_rule_laws.specs.Equal.{eq1, eq2, eq3, eq4, eq5, eq6, eq7, eq8}
 use Rattle.sc_rule_laws.specs.Sets.{se1, se2, se3, se4, se5, se6, se7, se8, se9, se10}
 use Rattle.sc_rule_laws.specs.Places.{roots, half_by, half, under}
-use Rattle.sc_rule_laws.specs.Entities.{en1_of, en1, en2, en3_of, en3, en4, en5, en6, en7, en8}
+use Rattle.sc_rule_laws.specs.Entities.{en1_of, en1, en2, en3_of, en3, en4, en5, en6, en7, en8, eq9}
 use Rattle.sc_rule_laws.specs.Strings.{Pattern, Signs, AreFew, st1, st3}
 use Rattle.sc_rule_instances.specs.declared.rule.EqualRule.TheVariants.{Eq1, Eq2, Eq3, Eq4, Eq5, Eq6, Eq7, Eq8}
 use Rattle.sc_rule_instances.specs.declared.rule.SetRule.TheVariants.{Se1, Se2, Se3, Se4, Se5, Se6, Se7, Se8, Se9, Se10}
-use Rattle.sc_rule_instances.specs.declared.rule.EntityRule.TheVariants.{En1, En2, En3, En4, En5, En6, En7, En8}
+use Rattle.sc_rule_instances.specs.declared.rule.EntityRule.TheVariants.{En1, En2, En3, En4, En5, En6, En7, En8, Eq9}
 use Rattle.sc_rule_instances.specs.Clauses.{literal_for, clause_for}
 use Rattle.sc_rule_instances.specs.Instances.{on_one, on_two, on_three, on_four}
 use Rattle.sc_rule_instances.specs.Known.{is_falsified}
@@ -49,7 +49,7 @@ use Rattle.sc_model_values.proofs.PlaceParts.{is_set_in, half_place, first_root,
 use Rattle.sc_model_laws.proofs.ClosedLaws.{of_part}
 use Rattle.sc_model_values.proofs.EqualParts.{eq1_truths, eq2_truths, eq3_truths, eq4_truths, eq5_truths, eq6_truths, eq7_truths, eq8_truths}
 use Rattle.sc_model_values.proofs.SetParts.{se1_truths, se2_truths, se3_truths, se4_truths, se5_truths, se6_truths, se7_truths, se8_truths, se9_truths, se10_truths}
-use Rattle.sc_model_values.proofs.EntityParts.{en1_truths, en2_truths, en3_truths, en4_truths, en5_truths, en6_truths, en7_truths, en8_truths}
+use Rattle.sc_model_values.proofs.EntityParts.{en1_truths, en2_truths, en3_truths, en4_truths, en5_truths, en6_truths, en7_truths, en8_truths, eq9_truths}
 
 -- what is said holds, where it is of closed terms
 abbrev pub HoldsIfClosed : Posed → Assignment → Said → Type 0
@@ -285,5 +285,7 @@ module _ (laws : TermsHold) (p : Posed) (posed : IsPosed p) (m : Assignment) (no
       of_two (en7 p.schema) y x i j (nothing.entities (En7 (number y) (number x))) (en7_truths p.schema p.env p.literals y x (term y i))
   rule_holds _ (rule.of_en8 x i) =
       of_one (en8 p.schema) x i (nothing.entities (En8 (number x))) (en8_truths p.schema p.env p.literals x)
+  rule_holds _ (rule.of_eq9 x i) =
+      of_one (eq9 p.schema) x i (nothing.entities (Eq9 (number x))) (eq9_truths p.schema p.env p.literals x)
   rule_holds _ (rule.of_st1 qs a b n i j) = st1_holds qs a b n i j
   rule_holds _ (rule.of_st3 qs v ts all few) = st3_holds qs v ts all few

@@ -1,4 +1,4 @@
--- The given entities: those of closed terms of types that are none of actions, each with what closed terms tell of it.
+-- The given entities: those of closed terms whose types list none, each with what closed terms tell of it.
 use Rattle.std.proofs.Common.{◌≡◌, inl, inr, ℕ, true, false, List, [], ◌∷◌, flat_map, Option, Some, None, unwrap_or, refl, sym, ap, ◌∙◌, subst}
 use Rattle.std.specs.List.{AllByRecursion}
 use Rattle.sc_lists.specs.Members.{Has}
@@ -19,6 +19,7 @@ use Rattle.sc_world.specs.WellFormed.{Entry, IsStored}
 use Rattle.sc_world.proofs.FillLaws.{each-with_entity, of_stored}
 use Rattle.sc_world.proofs.StoreLaws.{stored-with_entity, stored-kept}
 use Rattle.sc_sorts.specs.declared.sort.Sort.TheVariants as sort
+use Rattle.sc_sorts.specs.Entities.{choices_of}
 use Rattle.sc_sorts.proofs.EveryLaws.{in_Entity}
 use Rattle.sc_terms.specs.Trees.{Tree}
 use Rattle.sc_terms.specs.TreeSorts.{tree_sort}
@@ -66,7 +67,7 @@ module _ (d : Declarations) (env : Env) (literals : List Uid) (goal : Tree) (mad
   abbrev listed : List Uid
   listed = flat_map (entity_said m) m.closed
 
-  -- an entity of a closed term, of a declared type that is none of actions
+  -- an entity of a closed term, of a declared type that lists none: it is neither one of actions nor enumerated
   pub record IsPlainEntity (u : Uid) : Type 0 where
     pub term : Tree
     pub closed : Closed d env goal term
@@ -74,6 +75,7 @@ module _ (d : Declarations) (env : Env) (literals : List Uid) (goal : Tree) (mad
     pub sorted : tree_sort term ≡ sort.Entity name []
     pub said : m.uid term ≡ u
     pub typed : u.type_name ≡ name
+    pub unlisted : choices_of d u.type_name ≡ []
     pub no_action : is_action_type d u.type_name ≡ false
     pub declared : IsEntityType d u.type_name
 
@@ -96,6 +98,7 @@ module _ (d : Declarations) (env : Env) (literals : List Uid) (goal : Tree) (mad
         sorted = it.sorted;
         said = it.said;
         typed = type_is;
+        unlisted = ap (choices_of d) type_is ∙ sym level.1;
         no_action = ap (is_action_type d) type_is ∙ plain;
         declared = subst (IsEntityType d) (sym type_is) (entity_type_by it.name level.0 plain);
       }
@@ -118,15 +121,15 @@ module _ (d : Declarations) (env : Env) (literals : List Uid) (goal : Tree) (mad
         stored_with (m.uid x) (of_given (given_there d m listed (m.uid x) h))
         ∙ ap (λ (o : Option EntityData). Some (unwrap_or o (default_data d (m.uid x)))) (given_data d m listed (m.uid x) h)
 
-    -- of an action nothing is given
-    none_given : (u : Uid) → is_action_type d u.type_name ≡ true → data_with d (given_of d m) u ≡ default_data d u
-    none_given u e = by (stored u (given_of d m)) refl where
+    -- of an entity that its type lists nothing is given
+    none_given : (u : Uid) → (choices_of d u.type_name ≡ [] → ⊥) → data_with d (given_of d m) u ≡ default_data d u
+    none_given u some = by (stored u (given_of d m)) refl where
       by : (o : Option EntityData) → stored u (given_of d m) ≡ o → unwrap_or o (default_data d u) ≡ default_data d u
       by None f = refl
-      by (Some x) f = absurd (true_both (is_action_type d u.type_name) e (plain_entity u (given_only d m listed u x f).among).no_action)
+      by (Some x) f = absurd (some (plain_entity u (given_only d m listed u x f).among).unlisted)
 
-    pub action_stored : (u : Uid) (x : EntityData) → is_action_type d u.type_name ≡ true → stored u es ≡ Some x → x ≡ default_data d u
-    action_stored u x e f = of_stored (λ (y : Entry). y.1 ≡ data_with d (given_of d m) y.0) u x es given f ∙ none_given u e
+    pub listed_stored : (u : Uid) (x : EntityData) → (choices_of d u.type_name ≡ [] → ⊥) → stored u es ≡ Some x → x ≡ default_data d u
+    listed_stored u x some f = of_stored (λ (y : Entry). y.1 ≡ data_with d (given_of d m) y.0) u x es given f ∙ none_given u some
 
-    pub named_stored : (u : Uid) → is_action_type d u.type_name ≡ true → IsNamedWith d (given_of d m) r literals u → stored u es ≡ Some (default_data d u)
-    named_stored u e h = stored_with u h ∙ ap Some (none_given u e)
+    pub named_stored : (u : Uid) → (choices_of d u.type_name ≡ [] → ⊥) → IsNamedWith d (given_of d m) r literals u → stored u es ≡ Some (default_data d u)
+    named_stored u some h = stored_with u h ∙ ap Some (none_given u some)

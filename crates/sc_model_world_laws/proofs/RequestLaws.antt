@@ -15,10 +15,11 @@ use Rattle.sc_sorts.specs.Entities.{choices_of, entity_sort}
 use Rattle.sc_sorts.specs.declared.node.Leaf.TheVariants as leafs
 use Rattle.sc_terms.specs.Trees.{Tree, leaf}
 use Rattle.sc_terms.specs.TreeSorts.{tree_sort}
-use Rattle.sc_closure_rules.specs.Closure.{principal_term, resource_term}
+use Rattle.sc_closure_rules.specs.Closure.{of_principal, of_resource, principal_term, resource_term}
 use Rattle.sc_closure_rules.specs.Goals.{IsGoal}
 use Rattle.sc_model_laws.specs.Vals.{Model}
 use Rattle.sc_model_laws.specs.Models.{IsModel}
+use Rattle.sc_model_laws.proofs.ChosenLaws.{uid_is_choice}
 use Rattle.sc_model_laws.proofs.FittingLaws.{AreMade}
 use Rattle.sc_model_world_laws.specs.Laws.{AreTexts}
 use Rattle.sc_model_world_laws.specs.Rebuilt.{request_of}
@@ -45,6 +46,8 @@ module _ (d : Declarations) (env : Env) (literals : List Uid) (goal : Tree) (mad
           principal = model.typed env.principal (choices_of d env.principal) (principal_term d env) (principal_sort (entity_sort d env.principal));
           action = refl;
           resource = model.typed env.resource (choices_of d env.resource) (resource_term d env) (resource_sort (entity_sort d env.resource));
+          principal_choice = uid_is_choice d env goal m model literals made lawful is env.principal (choices_of d env.principal) (principal_term d env) of_principal (principal_sort (entity_sort d env.principal));
+          resource_choice = uid_is_choice d env goal m model literals made lawful is env.resource (choices_of d env.resource) (resource_term d env) of_resource (resource_sort (entity_sort d env.resource));
           context = subst (λ (o : _). IsSomeAnd o (λ x. IsTrue (conforms x (value.Record (request_of d env m).context)))) (sym t.1) fields.conform;
         };
         context = fields.proper;

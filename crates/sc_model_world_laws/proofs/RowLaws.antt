@@ -54,11 +54,11 @@ use Rattle.sc_terms.specs.Values.{Val, it, val, value_in, uid_in, uid_seen, text
 use Rattle.sc_terms.proofs.FoldValues.{one_is, two_is, leaf_is}
 use Rattle.sc_term_laws.specs.Judging.{IsTermOf}
 use Rattle.sc_term_laws.specs.Judging as judged
-use Rattle.sc_term_laws.proofs.ChoicesLaws.{no_choices}
+use Rattle.sc_term_laws.proofs.ChoicesLaws.{no_actions}
 use Rattle.sc_term_laws.proofs.DefaultTypeLaws.{no_option}
 use Rattle.sc_term_laws.proofs.FitEntities.{ascend_map, entity_cmp, string_cmp}
 use Rattle.sc_term_laws.proofs.FitSets.{set_ascends}
-use Rattle.sc_term_laws.proofs.SortsLawful.{action_of, lawful_action}
+use Rattle.sc_term_laws.proofs.SortsLawful.{action_of, lawful_action, below_lists, tagged_lists}
 use Rattle.sc_rule_laws.proofs.MemberTruths.{has_set_from, set_from_has}
 use Rattle.sc_closure_rules.specs.Closure.{Closed, principal_term, resource_term}
 use Rattle.sc_closure_rules.specs.Goals.{IsGoal}
@@ -76,11 +76,11 @@ use Rattle.sc_model_laws.proofs.SortedVals.{val_at, entity_val, set_val, record_
 use Rattle.sc_model_world_laws.specs.Rebuilt.{attributes_said, keys_said, tag_said, context_said, tag_default, tag_at, data_of, request_of, IsRebuilt}
 use Rattle.sc_model_world_laws.proofs.EntryLaws.{is_ancestor, ancestor_is, ancestors_ascend, keys_at, is_key, keys_ascend, context_of_term, context_sort}
 use Rattle.sc_model_world_laws.proofs.FirstLaws.{said_is}
-use Rattle.sc_model_world_laws.proofs.GivenLaws.{plain_stored, action_stored, named_stored}
+use Rattle.sc_model_world_laws.proofs.GivenLaws.{plain_stored, listed_stored, named_stored}
 use Rattle.sc_model_world_laws.proofs.OrderLaws.{has_ordered}
 use Rattle.sc_model_world_laws.proofs.RequestLaws.{principal_sort, resource_sort}
 use Rattle.sc_model_world_laws.proofs.SaidLaws.{attributes_told, says_attributes, says_key, tag_told, says_tag, context_told}
-use Rattle.sc_model_world_laws.proofs.TypeLaws.{attributes_type, action_sort, context_type, no_attributes, record_sort}
+use Rattle.sc_model_world_laws.proofs.TypeLaws.{attributes_type, listed_sort, context_type, no_attributes, record_sort}
 
 -- ---- orders of entities and of strings
 
@@ -144,12 +144,6 @@ module _ (d : Declarations) (env : Env) (literals : List Uid) where
 
   resource_told : (j k : Sort) → IsTermOf d env literals j (leaf (leafs.Resource k)) → k ≡ entity_sort d env.resource
   resource_told _ _ judged.of_resource = refl
-
-no_tags : (d : Declarations) (name : List ℕ) (t : Ty) → tags_of d name ≡ Some t → is_action_type d name ≡ false
-no_tags d name t e = by (is_action_type d name) refl where
-  by : (b : Bool) → is_action_type d name ≡ b → b ≡ false
-  by false f = refl
-  by true f = let both : Some t ≡ None = sym e ∙ ap (λ (b : Bool). cond b None (option_and_then (λ (x : EntityType). x.tags) (entity_type d name))) f in absurd cc
 
 module _ (m : Model) where
   -- a record's value is the record of its fields
@@ -221,13 +215,13 @@ module _ (d : Declarations) (env : Env) (literals : List Uid) (goal : Tree) (mad
   text_right : (x : Tree) → tree_sort x ≡ sort.String → IsRight m w x → text_in (val x w) ≡ m.text x
   text_right x e q = ap text_in (q ∙ ap (λ (j : Sort). val_of m j x) e ∙ val_at m sort.String s.String x out_String) ∙ ap text_seen (out.out_String (m.text x))
 
-  -- of a type that is none of actions what closed terms tell is stored
-  told_stored : (name : List ℕ) (e : Tree) → tree_sort e ≡ entity_sort d name → is_action_type d name ≡ false → Closed d env goal e → stored (m.uid e) w.store ≡ Some (data_of d m (m.uid e))
+  -- of a type that lists no entities what closed terms tell is stored
+  told_stored : (name : List ℕ) (e : Tree) → tree_sort e ≡ entity_sort d name → choices_of d name ≡ [] → Closed d env goal e → stored (m.uid e) w.store ≡ Some (data_of d m (m.uid e))
   told_stored name e s n c =
-      plain_stored d env literals goal made m model lawful is (request_of d env m) w.store r.given r.stored name e (s ∙ ap (sort.Entity name) (no_choices d name n)) c
+      plain_stored d env literals goal made m model lawful is (request_of d env m) w.store r.given r.stored name e (s ∙ ap (sort.Entity name) n) c
 
-  acts_as : (name : List ℕ) (e : Tree) → tree_sort e ≡ entity_sort d name → is_action_type d name ≡ true → is_action_type d (m.uid e).type_name ≡ true
-  acts_as name e s a = ap (is_action_type d) (named_type d env literals goal made m model name e s) ∙ a
+  listed_as : (name : List ℕ) (e : Tree) → tree_sort e ≡ entity_sort d name → (choices_of d name ≡ [] → ⊥) → choices_of d (m.uid e).type_name ≡ [] → ⊥
+  listed_as name e s some none = some (ap (choices_of d) (sym (named_type d env literals goal made m model name e s)) ∙ none)
 
   -- ---- attributes
 
@@ -244,24 +238,25 @@ module _ (d : Declarations) (env : Env) (literals : List Uid) (goal : Tree) (mad
   right_attributes k e c q =
       let p = of_attributes d env literals (tree_sort (one (unary.Attributes k) e)) k e (made (one (unary.Attributes k) e) c) in
       one_is (unary.Attributes k) e w ∙ ap (λ (u : Uid). it (attributes_value k (stored u w.store))) (uid_right p.name e p.sorted q)
-      ∙ by p.name p.type p.declared p.own p.sorted (is_action_type d p.name) refl ∙ sym (ap (λ (j : Sort). val_of m j (one (unary.Attributes k) e)) (attributes_sort k e)) where
-        empty : (name : List ℕ) → tree_sort e ≡ entity_sort d name → is_action_type d name ≡ true → k ≡ sort.Record [] → (o : Option EntityData) → stored (m.uid e) w.store ≡ o → attributes_value k o ≡ value.Record []
+      ∙ by p.name p.type p.declared p.own p.sorted (choices_of d p.name) refl ∙ sym (ap (λ (j : Sort). val_of m j (one (unary.Attributes k) e)) (attributes_sort k e)) where
+        empty : (name : List ℕ) → tree_sort e ≡ entity_sort d name → (choices_of d name ≡ [] → ⊥) → k ≡ sort.Record [] → (o : Option EntityData) → stored (m.uid e) w.store ≡ o → attributes_value k o ≡ value.Record []
         empty name s a n None f = ap default_of n ∙ plain.default_Record []
         empty name s a n (Some x) f =
-            let acts = acts_as name e s a in
-            ap (λ (y : EntityData). value.Record y.attrs) (action_stored d env literals goal made m model lawful is (request_of d env m) w.store r.given r.stored (m.uid e) x acts f)
-            ∙ ap value.Record (no_attributes d lawful (m.uid e).type_name acts)
+            let some = listed_as name e s a in
+            ap (λ (y : EntityData). value.Record y.attrs) (listed_stored d env literals goal made m model lawful is (request_of d env m) w.store r.given r.stored (m.uid e) x some f)
+            ∙ ap value.Record (no_attributes d lawful (m.uid e).type_name some)
 
-        by : (name : List ℕ) (t : Ty) → attrs_of d name ≡ Some t → k ≡ sort_of t → tree_sort e ≡ entity_sort d name → (b : Bool) → is_action_type d name ≡ b
+        by : (name : List ℕ) (t : Ty) → attrs_of d name ≡ Some t → k ≡ sort_of t → tree_sort e ≡ entity_sort d name → (us : List Uid) → choices_of d name ≡ us
             → it (attributes_value k (stored (m.uid e) w.store)) ≡ val_of m k (one (unary.Attributes k) e)
-        by name t g o s false n =
+        by name t g o s [] n =
             let fs = record_sort d t (attributes_type d lawful name t g) in
             ap (λ (x : Option EntityData). it (attributes_value k x)) (told_stored name e s n (of_part d env goal (one (unary.Attributes k) e) e c (inl refl)))
             ∙ ap (λ (x : Fields). it (value.Record x)) (told_attributes k e c)
             ∙ whole_val m k fs.0 (one (unary.Attributes k) e) (o ∙ fs.1)
-        by name t g o s true n =
-            let none = o ∙ action_sort d lawful name t n g in
-            ap it (empty name s n none (stored (m.uid e) w.store) refl)
+        by name t g o s (u ∷ us) n =
+            let some : choices_of d name ≡ [] → ⊥ = λ (f : choices_of d name ≡ []). let both : u ∷ us ≡ [] = sym n ∙ f in absurd cc in
+            let none = o ∙ listed_sort d lawful name t some g in
+            ap it (empty name s some none (stored (m.uid e) w.store) refl)
             ∙ sym (ap (λ (j : Sort). val_of m j (one (unary.Attributes k) e)) none ∙ record_val m [] (one (unary.Attributes k) e))
 
   -- ---- ancestors
@@ -322,12 +317,12 @@ module _ (d : Declarations) (env : Env) (literals : List Uid) (goal : Tree) (mad
 
     either : (p : OfAncestors d env literals k e) (b : Bool) → is_action_type d p.name ≡ b → IsRight m w (one (unary.Ancestors k) e)
     either p false n =
-        at p (data_of d m (m.uid e)) (told_stored p.name e p.sorted n (of_part d env goal (one (unary.Ancestors k) e) e c (inl refl)))
+        at p (data_of d m (m.uid e)) (told_stored p.name e p.sorted (below_lists d lawful p.name p.above p.names p.declared p.among n) (of_part d env goal (one (unary.Ancestors k) e) e c (inl refl)))
         ∙ ancestors_right k e p.above (data_of d m (m.uid e)).ancestors p.own (ancestors_ascend d env literals goal made m model lawful is (m.uid e)) (told_ancestors k e c p)
     either p true n =
         let acts = is_action d env literals goal made m model lawful k e c p n in
         at p (default_data d (m.uid e))
-        (named_stored d env literals goal made m model lawful is (request_of d env m) w.store r.given r.stored (m.uid e) (acts_as p.name e p.sorted n) (of_schema acts))
+        (named_stored d env literals goal made m model lawful is (request_of d env m) w.store r.given r.stored (m.uid e) (listed_as p.name e p.sorted (λ none. let both : true ≡ false = sym n ∙ no_actions d p.name none in absurd cc)) (of_schema acts))
         ∙ ancestors_right k e p.above (unwrap_or (action_ancestors d (m.uid e)) []) p.own (declared_ascend (m.uid e) acts) (action_members d env literals goal made m model lawful k e c p n)
 
     by : OfAncestors d env literals k e → IsRight m w (one (unary.Ancestors k) e)
@@ -362,7 +357,7 @@ module _ (d : Declarations) (env : Env) (literals : List Uid) (goal : Tree) (mad
       let vals_are : map (λ y. value_in (val_of m sort.String y)) ys ≡ map value.String (map m.text ys) =
       (λ i. map (λ y. value_in (val_at m sort.String s.String y out_String i)) ys) ∙ sym (map-map value.String m.text ys) in
       one_is unary.Keys e w ∙ ap (λ (u : Uid). it (keys_value (stored u w.store))) (uid_right p.name e p.sorted q)
-      ∙ ap (λ (o : Option EntityData). it (keys_value o)) (told_stored p.name e p.sorted (no_tags d p.name p.type p.declared) (of_part d env goal (one unary.Keys e) e c (inl refl)))
+      ∙ ap (λ (o : Option EntityData). it (keys_value o)) (told_stored p.name e p.sorted (tagged_lists d lawful p.name p.type p.declared) (of_part d env goal (one unary.Keys e) e c (inl refl)))
       ∙ ap (λ (vs : List Value). it (value.Set vs)) (map-map (λ (f : List ℕ × Value). value.String f.0) (tag_at d m (m.uid e)) (keys e))
       ∙ ap (λ (vs : List Value). it (value.Set vs))
       (set_is (map value.String (keys e)) (map value.String (map m.text ys))
@@ -388,7 +383,7 @@ module _ (d : Declarations) (env : Env) (literals : List Uid) (goal : Tree) (mad
       let plain_sort : is_option k ≡ false = ap is_option p.own ∙ no_option p.type in
       two_is (binary.Tag k) e x w
       ∙ (λ i. it (tag_value k (text_right x p.key t i) (stored (uid_right p.name e p.sorted q i) w.store)))
-      ∙ ap (λ (o : Option EntityData). it (tag_value k (m.text x) o)) (told_stored p.name e p.sorted (no_tags d p.name p.type p.declared) (of_part d env goal (two (binary.Tag k) e x) e c (inl refl)))
+      ∙ ap (λ (o : Option EntityData). it (tag_value k (m.text x) o)) (told_stored p.name e p.sorted (tagged_lists d lawful p.name p.type p.declared) (of_part d env goal (two (binary.Tag k) e x) e c (inl refl)))
       ∙ by plain_sort (lit m.truths (two binary.Member x (one unary.Keys e))) refl
       ∙ sym (ap (λ (j : Sort). val_of m j (two (binary.Tag k) e x)) (tag_sort k e x)) where
         keys_closed : Closed d env goal (one unary.Keys e)

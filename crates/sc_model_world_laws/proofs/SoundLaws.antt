@@ -22,10 +22,12 @@ use Rattle.sc_values.specs.declared.value.Value.TheVariants as value
 use Rattle.sc_values.specs.Proper.{IsProper, IsProperLevel, IsProperRecord, IsUidText}
 use Rattle.sc_values.proofs.EveryLaws as every
 use Rattle.sc_world.specs.declared.entity.EntityData.{EntityData}
+use Rattle.sc_world.specs.Choices.{IsChoice}
 use Rattle.sc_world.specs.Conforms.{conforms}
 use Rattle.sc_world.specs.Sound.{IsSoundEntry, AreSound}
 use Rattle.sc_world.specs.Stores.{stored}
 use Rattle.sc_world.specs.WellFormed.{Entry, IsProperEntry}
+use Rattle.sc_sorts.specs.Entities.{choices_of}
 use Rattle.sc_sorts.specs.declared.node.UnaryOp.TheVariants as unary
 use Rattle.sc_terms.specs.Trees.{Tree, one}
 use Rattle.sc_terms.specs.TreeSorts.{tree_sort}
@@ -33,6 +35,7 @@ use Rattle.sc_closure_rules.specs.Goals.{IsGoal}
 use Rattle.sc_model_laws.specs.Laws.{EquationsAgree}
 use Rattle.sc_model_laws.specs.Vals.{Model}
 use Rattle.sc_model_laws.specs.Models.{IsModel}
+use Rattle.sc_model_laws.proofs.ChosenLaws.{uid_is_choice}
 use Rattle.sc_model_laws.proofs.EntityLaws.{OfAncestors, of_ancestors, ancestors_sort, named_type, acyclic, transitive}
 use Rattle.sc_model_laws.proofs.FittingLaws.{AreMade, assigned_sorted}
 use Rattle.sc_model_world_laws.specs.Laws.{AreTexts}
@@ -111,6 +114,16 @@ module _ (d : Declarations) (env : Env) (literals : List Uid) (goal : Tree) (mad
         let names = ancestor_type u w a in
         some_and (ancestor_types d u.type_name) q.names (λ types. Contains types w.type_name) (ap (ancestor_types d) (sym names.1) ∙ q.declared) (subst (Contains q.names) (sym names.0) q.among)
 
+    own_choice : IsChoice d u
+    own_choice = subst (IsChoice d) p.said (uid_is_choice d env goal m model literals made lawful is p.name [] p.term p.closed p.sorted)
+
+    ancestor_choice : (w : Uid) → Has (data_of d m u).ancestors w → IsChoice d w
+    ancestor_choice w h =
+        let a = is_ancestor d env literals goal made m model lawful is u w h in
+        let q = ancestors_of u w a in
+        let there = assigned_sorted d env literals goal made m model a.own (one (unary.Ancestors a.own) a.entity) a.member (ancestors_sort a.own a.entity) a.among in
+        subst (IsChoice d) a.said (uid_is_choice d env goal m model literals made lawful is q.above (choices_of d q.above) a.member there.0 (there.1 ∙ q.own))
+
     -- ---- its ancestors
 
     above_above : (a : Uid) (x : EntityData) → Has (data_of d m u).ancestors a → stored a (given_of d m) ≡ Some x → AllByRecursion (λ b. Contains (data_of d m u).ancestors b) x.ancestors
@@ -144,6 +157,7 @@ module _ (d : Declarations) (env : Env) (literals : List Uid) (goal : Tree) (mad
       transitive = Has-AllByRecursion _ (data_of d m u).ancestors (λ a h. above_by a h (stored a (given_of d m)) refl);
       acyclic = λ h. own_ancestor (Has-from_Contains (data_of d m u).ancestors u h);
       action = λ acts. absurd (true_both (is_action_type d u.type_name) acts p.no_action);
+      choices = record { uid = own_choice; ancestors = Has-AllByRecursion (IsChoice d) (data_of d m u).ancestors ancestor_choice };
     }
 
   entry_sound : (x : Entry) → IsGivenEntry d m (flat_map (entity_said m) m.closed) x → IsSoundEntry d (given_of d m) x

@@ -19,13 +19,14 @@ use Rattle.sc_world.specs.Defaults.{default_value, default_attrs, default_fields
 use Rattle.sc_sorts.specs.declared.sort.Sort.{Sort}
 use Rattle.sc_sorts.specs.declared.sort.Sort.TheVariants as sort
 use Rattle.sc_sorts.specs.Defaults.{default_of}
+use Rattle.sc_sorts.specs.Entities.{choices_of}
 use Rattle.sc_sorts.specs.Inside.{SortFields}
 use Rattle.sc_sorts.specs.OfTypes.{sort_of, field_sort}
 use Rattle.sc_sorts.proofs.DefaultLaws as plain
 use Rattle.sc_sorts.proofs.OfTypesLaws.{sort_of_Record}
 use Rattle.sc_terms.specs.Values.{fields_seen}
 use Rattle.sc_term_laws.proofs.DefaultTypeLaws.{default_agrees}
-use Rattle.sc_term_laws.proofs.SortsLawful.{lawful_type, lawful_action}
+use Rattle.sc_term_laws.proofs.SortsLawful.{bare_type, lawful_type, lawful_action}
 
 module _ (d : Declarations) (lawful : IsLawful d) where
   -- ---- types of attributes
@@ -82,16 +83,26 @@ module _ (d : Declarations) (lawful : IsLawful d) where
   default_seen o t e of_record =
       ap (default_fields d) e ∙ same_fields (out-Value (default_value d t)) ∙ ap (λ (x : Value). fields_seen (out-Value x)) (sym (default_agrees d lawful t of_record.proper))
 
-  -- of actions
+  -- of entities that their types list: actions, and choices
   no_field_sort : sort_of (ty.Record []) ≡ sort.Record []
   no_field_sort = sort_of_Record []
 
-  pub action_sort : (name : List ℕ) (t : Ty) → is_action_type d name ≡ true → attrs_of d name ≡ Some t → sort_of t ≡ sort.Record []
-  action_sort name t n e = ap sort_of (sym (same_some (sym (action_attributes name n) ∙ e))) ∙ no_field_sort
+  listed_attributes : (name : List ℕ) → (choices_of d name ≡ [] → ⊥) → attrs_of d name ≡ Some (ty.Record [])
+  listed_attributes name some = by (is_action_type d name) refl
+    where
+      by : (b : Bool) → is_action_type d name ≡ b → attrs_of d name ≡ Some (ty.Record [])
+      by true e = action_attributes name e
+      by false e =
+          let it = bare_type d lawful name e some in
+          ap (λ (b : Bool). cond b (Some (ty.Record [])) (option_map (λ (x : EntityType). x.shape) (entity_type d name))) e
+          ∙ ap (option_map (λ (x : EntityType). x.shape)) it.found ∙ ap (λ (t : Ty). Some t) it.bare.attributes
 
-  pub no_attributes : (name : List ℕ) → is_action_type d name ≡ true → default_attrs d name ≡ []
-  no_attributes name n =
-      default_seen (attrs_of d name) (ty.Record []) (action_attributes name n) (no_fields_lawful d)
+  pub listed_sort : (name : List ℕ) (t : Ty) → (choices_of d name ≡ [] → ⊥) → attrs_of d name ≡ Some t → sort_of t ≡ sort.Record []
+  listed_sort name t some e = ap sort_of (sym (same_some (sym (listed_attributes name some) ∙ e))) ∙ no_field_sort
+
+  pub no_attributes : (name : List ℕ) → (choices_of d name ≡ [] → ⊥) → default_attrs d name ≡ []
+  no_attributes name some =
+      default_seen (attrs_of d name) (ty.Record []) (listed_attributes name some) (no_fields_lawful d)
       ∙ ap (λ (k : Sort). fields_seen (out-Value (default_of k))) no_field_sort
       ∙ ap (λ (x : Value). fields_seen (out-Value x)) (plain.default_Record [])
       ∙ ap fields_seen (out.out_Record [])

@@ -98,7 +98,7 @@ unfoldable pub given_from : Declarations → Model → List Uid → Entities
 given_from d m [] = []
 given_from d m (u ∷ us) = with_entity u (data_of d m u) (given_from d m us)
 
--- the entities of closed terms, which are of no type of actions
+-- the entities of closed terms whose types list none: no actions, and none of enumerated types
 abbrev pub given_of : Declarations → Model → Entities
 given_of d m = given_from d m (flat_map (entity_said m) m.closed)
 
@@ -133,5 +133,5 @@ each_once = refl
 pub plain_is_given : (name : List ℕ) (u : Uid) → entity_by (s.Entity name []) u ≡ u ∷ []
 plain_is_given name u = refl
 
-pub no_action_is_given : (name : List ℕ) (u v : Uid) → entity_by (s.Entity name (v ∷ [])) u ≡ []
-no_action_is_given name u v = refl
+pub none_listed_is_given : (name : List ℕ) (u v : Uid) → entity_by (s.Entity name (v ∷ [])) u ≡ []
+none_listed_is_given name u v = refl

@@ -19,13 +19,14 @@ use sc_sorts::Sort;
 use sc_world::Store;
 use std::alloc::{AllocError, Global};
 
-/// Whether the entities of a sort are given: those of types that are none of actions.
+/// Whether the entities of a sort are given: those of types that list none, which are neither of actions nor
+/// enumerated.
 #[tactic(auto, using(crate::proofs::GivenLaws::of_entity))]
 fn are_given(sort: &Sort) -> bool
     ensures { result ≡ given_sort (out-Sort sort.now) }
 {
     match sort {
-        Sort::Entity(_, actions) => actions.is_empty(),
+        Sort::Entity(_, choices) => choices.is_empty(),
         _ => false,
     }
 }
@@ -93,7 +94,7 @@ fn stored_of(
     Ok(given)
 }
 
-/// The entities of closed terms that are of no type of actions, with what closed terms tell of them
+/// The entities of closed terms whose types list none, with what closed terms tell of them
 /// under an assignment and with these names of closed terms, by their numbers from 1 on. Want of
 /// memory is its one fault.
 pub fn given_of(

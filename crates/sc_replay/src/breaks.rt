@@ -19,7 +19,8 @@ use std::alloc::{AllocError, Global};
 /// What keeps a world from being well-formed.
 #[derive(Debug, PartialEq, Eq, Drop)]
 pub enum Break {
-    /// No environment fits the request, or its context doesn't conform.
+    /// No environment fits the request, its principal or resource is no choice of an enumerated type, or its context
+    /// doesn't conform.
     Request,
     /// What is stored of this entity isn't as its type, its ancestors or its kind have it.
     Entity(Uid),

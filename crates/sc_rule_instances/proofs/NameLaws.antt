@@ -76,7 +76,7 @@ set_word rule (Four a b c d) r = λ e. absurd cc
 set_word rule Other r = λ e. absurd cc
 
 entity_word : (rule : List ℕ) (n : Numbers) (r : EntityRule) → entity_named rule n ≡ Some r → is_rule_word rule ≡ true
-entity_word rule (One a) r = one_word rule (codes "EN4") _ r _ refl (one_word rule (codes "EN6") _ r _ refl (last_word rule (codes "EN8") _ r refl))
+entity_word rule (One a) r = one_word rule (codes "EN4") _ r _ refl (one_word rule (codes "EN6") _ r _ refl (one_word rule (codes "EN8") _ r _ refl (last_word rule (codes "EQ9") _ r refl)))
 entity_word rule (Two a b) r = last_word rule (codes "EN7") _ r refl
 entity_word rule (Three a b c) r = one_word rule (codes "EN1") _ r _ refl (one_word rule (codes "EN2") _ r _ refl (last_word rule (codes "EN3") _ r refl))
 entity_word rule (Four a b c d) r = last_word rule (codes "EN5") _ r refl

@@ -16,7 +16,7 @@ use Rattle.sc_rule_instances.specs.declared.rule.EqualRule.TheVariants.{Eq1, Eq2
 use Rattle.sc_rule_instances.specs.declared.rule.SetRule.{SetRule}
 use Rattle.sc_rule_instances.specs.declared.rule.SetRule.TheVariants.{Se1, Se2, Se3, Se4, Se5, Se6, Se7, Se8, Se9, Se10}
 use Rattle.sc_rule_instances.specs.declared.rule.EntityRule.{EntityRule}
-use Rattle.sc_rule_instances.specs.declared.rule.EntityRule.TheVariants.{En1, En2, En3, En4, En5, En6, En7, En8}
+use Rattle.sc_rule_instances.specs.declared.rule.EntityRule.TheVariants.{En1, En2, En3, En4, En5, En6, En7, En8, Eq9}
 use Rattle.sc_rule_laws.specs.Signed.{Said, Holds}
 use Rattle.sc_rule_instances.specs.Names.{equal_rule, set_rule, entity_rule}
 use Rattle.sc_rule_instances.specs.Instances.{on_one, on_two, on_three, on_four, equal_said, set_said, entity_said, equal_of, set_of, entity_of, said_by}
@@ -24,7 +24,7 @@ use Rattle.sc_rule_laws.proofs.EqualSound.{eq1_holds, eq2_holds, eq5_holds, eq6_
 use Rattle.sc_rule_laws.proofs.SetSound.{se1_holds, se3_holds, se4_holds, se5_holds, se6_holds, se7_holds}
 use Rattle.sc_rule_laws.proofs.WrittenSound.{se9_holds, se10_holds}
 use Rattle.sc_rule_laws.proofs.EntitySound.{en1_holds, en2_holds, en3_holds}
-use Rattle.sc_rule_laws.proofs.TermsHold.{eq3_true, eq4_true, eq7_true, se2_true, se8_true, en4_true, en5_true, en6_true, en7_true, en8_true}
+use Rattle.sc_rule_laws.proofs.TermsHold.{eq3_true, eq4_true, eq7_true, se2_true, se8_true, en4_true, en5_true, en6_true, en7_true, en8_true, eq9_true}
 
 -- ---- rules on closed terms
 
@@ -97,6 +97,7 @@ module _ (laws : TermsHold) (p : Posed) (w : World) (posed : IsPosed p) (formed 
   entity_holds (En6 a) = one_holds w (term_of p a) _ (λ t i. en6_true p.schema p.env p.literals w posed.lawful formed t (closed_term a t i))
   entity_holds (En7 s x) = two_hold w (term_of p s) (term_of p x) _ (λ t u i j. en7_true p.schema p.env p.literals w posed.lawful formed t u)
   entity_holds (En8 x) = one_holds w (term_of p x) _ (λ t i. en8_true p.schema p.env p.literals w posed.lawful formed t (closed_term x t i))
+  entity_holds (Eq9 x) = one_holds w (term_of p x) _ (λ t i. eq9_true p.schema p.env p.literals w posed.lawful formed t (closed_term x t i))
 
 -- ---- of the instances that are written
 

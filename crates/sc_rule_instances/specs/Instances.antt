@@ -9,12 +9,12 @@ use Rattle.sc_rule_instances.specs.declared.rule.EqualRule.TheVariants.{Eq1, Eq2
 use Rattle.sc_rule_instances.specs.declared.rule.SetRule.{SetRule}
 use Rattle.sc_rule_instances.specs.declared.rule.SetRule.TheVariants.{Se1, Se2, Se3, Se4, Se5, Se6, Se7, Se8, Se9, Se10}
 use Rattle.sc_rule_instances.specs.declared.rule.EntityRule.{EntityRule}
-use Rattle.sc_rule_instances.specs.declared.rule.EntityRule.TheVariants.{En1, En2, En3, En4, En5, En6, En7, En8}
+use Rattle.sc_rule_instances.specs.declared.rule.EntityRule.TheVariants.{En1, En2, En3, En4, En5, En6, En7, En8, Eq9}
 use Rattle.sc_rule_laws.specs.Signed.{Said}
 use Rattle.sc_rule_instances.specs.Clauses.{is_instance, said_clause}
 use Rattle.sc_rule_laws.specs.Equal.{eq1, eq2, eq3, eq4, eq5, eq6, eq7, eq8}
 use Rattle.sc_rule_laws.specs.Sets.{se1, se2, se3, se4, se5, se6, se7, se8, se9, se10}
-use Rattle.sc_rule_laws.specs.Entities.{en1, en2, en3, en4, en5, en6, en7, en8}
+use Rattle.sc_rule_laws.specs.Entities.{en1, en2, en3, en4, en5, en6, en7, en8, eq9}
 use Rattle.sc_rule_instances.specs.Names.{equal_rule, set_rule, entity_rule}
 
 -- a rule on one closed term, on two, three and four
@@ -71,6 +71,7 @@ entity_said p (En5 e f x u) = on_four (term_of p e) (term_of p f) (term_of p x) 
 entity_said p (En6 a) = on_one (term_of p a) en6
 entity_said p (En7 s x) = on_two (term_of p s) (term_of p x) (en7 p.schema)
 entity_said p (En8 x) = on_one (term_of p x) (en8 p.schema)
+entity_said p (Eq9 x) = on_one (term_of p x) (eq9 p.schema)
 
 -- ---- of the instances that are written
 

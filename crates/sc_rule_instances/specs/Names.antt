@@ -14,7 +14,7 @@ use Rattle.sc_rule_instances.specs.declared.rule.EqualRule.TheVariants.{Eq1, Eq2
 use Rattle.sc_rule_instances.specs.declared.rule.SetRule.{SetRule}
 use Rattle.sc_rule_instances.specs.declared.rule.SetRule.TheVariants.{Se1, Se2, Se3, Se4, Se5, Se6, Se7, Se8, Se9, Se10}
 use Rattle.sc_rule_instances.specs.declared.rule.EntityRule.{EntityRule}
-use Rattle.sc_rule_instances.specs.declared.rule.EntityRule.TheVariants.{En1, En2, En3, En4, En5, En6, En7, En8}
+use Rattle.sc_rule_instances.specs.declared.rule.EntityRule.TheVariants.{En1, En2, En3, En4, En5, En6, En7, En8, Eq9}
 
 -- the numbers that words are, where there are one to four
 abbrev pub numbers_of : List Word → Numbers
@@ -81,13 +81,14 @@ set_named rule _ = None
 abbrev pub set_rule : Instance → Option SetRule
 set_rule i = set_named i.rule (numbers_in i.words)
 
--- ---- EN
+-- ---- EN, and EQ9
 
 abbrev pub entity_one : List ℕ → ℕ → Option EntityRule
 entity_one rule a =
     if is_named rule (codes "EN4") then Some (En4 a)
     else if is_named rule (codes "EN6") then Some (En6 a)
     else if is_named rule (codes "EN8") then Some (En8 a)
+    else if is_named rule (codes "EQ9") then Some (Eq9 a)
     else None
 
 abbrev pub entity_two : List ℕ → ℕ → ℕ → Option EntityRule
@@ -128,3 +129,9 @@ se10_is_named = refl
 pub en5_is_named : entity_named (codes "EN5") (numbers_of (Number 1 ∷ Number 2 ∷ Number 3 ∷ Number 9 ∷ []))
     ≡ Some (En5 1 2 3 9)
 en5_is_named = refl
+
+pub eq9_is_of_entities : entity_named (codes "EQ9") (numbers_of (Number 4 ∷ [])) ≡ Some (Eq9 4)
+eq9_is_of_entities = refl
+
+pub eq9_is_of_no_equation : equal_named (codes "EQ9") (numbers_of (Number 4 ∷ [])) ≡ None
+eq9_is_of_no_equation = refl

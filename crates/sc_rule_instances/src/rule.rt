@@ -66,4 +66,6 @@ pub enum EntityRule {
     En7(u64, u64),
     /// x: an entity of a type of actions is a declared one.
     En8(u64),
+    /// x: an entity of an enumerated type is one of its choices.
+    Eq9(u64),
 }

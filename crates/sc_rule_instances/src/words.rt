@@ -168,6 +168,8 @@ fn entity_one(rule: &str, a: u64) -> Option<EntityRule>
         Some(EntityRule::En6(a))
     } else if equals(rule, "EN8") {
         Some(EntityRule::En8(a))
+    } else if equals(rule, "EQ9") {
+        Some(EntityRule::Eq9(a))
     } else {
         None
     }

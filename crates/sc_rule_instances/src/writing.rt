@@ -96,5 +96,6 @@ pub fn write_entity(alloc: Global, rule: EntityRule) -> Result<Instance, AllocEr
         EntityRule::En6(a) => numbered(alloc, "EN6", &[a]),
         EntityRule::En7(s, x) => numbered(alloc, "EN7", &[s, x]),
         EntityRule::En8(x) => numbered(alloc, "EN8", &[x]),
+        EntityRule::Eq9(x) => numbered(alloc, "EQ9", &[x]),
     }
 }

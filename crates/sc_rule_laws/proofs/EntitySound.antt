@@ -1,10 +1,10 @@
 -- The rules of what is stored of entities are true in every well-formed world.
-use Rattle.std.proofs.Common.{◌≡◌, ◌||◌, ◌==◌, ℕ, Bool, true, false, not, cond, inl, inr, List, [], ◌∷◌, map, filter, length, unwrap_or, IfSome, Option, Some, None, refl, sym, ap, ◌∙◌, subst, Contains}
+use Rattle.std.proofs.Common.{◌&&◌, ◌≡◌, ◌||◌, ◌==◌, ℕ, Bool, true, false, not, cond, inl, inr, List, [], ◌∷◌, map, filter, length, unwrap_or, IfSome, Option, Some, None, refl, sym, ap, ◌∙◌, subst, Contains}
 use Rattle.std.specs.List.{AllByRecursion}
 use Rattle.std.specs.Ordering.{is_eq}
 use Rattle.std.specs.Str.{bytes_eq}
 use Rattle.sc_lists.specs.Members.{Has}
-use Rattle.sc_laws.proofs.BoolLaws.{never}
+use Rattle.sc_laws.proofs.BoolLaws.{and_second, never}
 use Rattle.sc_lists.proofs.ListLaws.{all_element}
 use Rattle.sc_lists.proofs.MemberLaws.{Has-map, map-Has, Has-from_Contains, Contains-from_Has}
 use Rattle.sc_laws.proofs.OptionLaws.{same_some}
@@ -47,7 +47,7 @@ use Rattle.sc_rule_laws.proofs.MemberLaws.{filter_passes, filter_within, filter_
 use Rattle.sc_rule_laws.specs.Signed.{Signed, Said, so, unless, some_holds, Holds, is_true}
 use Rattle.sc_rule_laws.specs.Places.{roots, half}
 use Rattle.sc_rule_laws.specs.Terms.{member, above, keys, entity}
-use Rattle.sc_rule_laws.specs.Entities.{en1_of, en1, same_sets, en2, en3_of, en3, en4, en5, en6, is_uid_in, is_literal_of, en7_of, en7_by, en7, en8_of}
+use Rattle.sc_rule_laws.specs.Entities.{en1_of, en1, same_sets, en2, en3_of, en3, en4, en5, en6, is_uid_in, is_literal_of, en7_of, en7_by, en7, chosen_of}
 use Rattle.sc_rule_laws.proofs.ClauseLaws.{unless_else, so_else, so_holds, unless_holds, one_of, given_holds}
 use Rattle.sc_rule_laws.proofs.EquationLaws.{is_equal, equal_so}
 use Rattle.sc_rule_laws.proofs.MemberTruths.{is_member, member_so, member_moves}
@@ -256,7 +256,7 @@ module _ (w : World) where
       (subst (λ (x : Val). Has (members_in x) (value_in (val k w))) (sym (one_is unary.Keys e w)) (subst (Has (members_seen (out-Value (keys_value (entity_in (val e w) w))))) (ap value_in (sym is)) h))) ∙ m)))
       ∙ sym (default_is s w ∙ ap (λ (b : Bool). default_by b (default_of s)) plain))))
 
-  -- ---- EN7, EN8
+  -- ---- EN7, EN8, EQ9
 
   -- an action is stored with just these ancestors
   pub record StoresAction (u : Uid) (us : List Uid) : Type 0 where
@@ -337,8 +337,8 @@ module _ (w : World) where
       → Holds w (en7 d (one (unary.Ancestors k) (leaf (leafs.Literal (literal.Entity u choices)))) x)
   en7_holds d k u choices x is = en7_known d k u choices (action_ancestors d u) x is
 
-  -- a declared one
-  pub en8_at : (d : Declarations) (x : Tree) (us : List Uid) → (not (length us == 0) ≡ true → (u : Uid) × (val x w ≡ it (value.Entity u)) × Has us u) → Holds w (en8_of d x us)
-  en8_at d x us found = given_holds w (not (length us == 0)) _ (λ t.
-      let (u, is, h) = found t in
+  -- one of those that its sort lists
+  pub chosen_at : (d : Declarations) (x : Tree) (asked : Bool) (us : List Uid) → (not (length us == 0) ≡ true → (u : Uid) × (val x w ≡ it (value.Entity u)) × Has us u) → Holds w (chosen_of d x asked us)
+  chosen_at d x asked us found = given_holds w (asked && not (length us == 0)) _ (λ t.
+      let (u, is, h) = found (and_second asked (not (length us == 0)) t) in
       one_of w (λ z. equal_term x (entity d z)) us u h (equal_so w x (entity d u) (is ∙ sym (val_uid u (choices_of d u.type_name)))))

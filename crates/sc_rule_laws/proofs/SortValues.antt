@@ -2,11 +2,12 @@
 use Rattle.std.proofs.Common.{◌≡◌, ℕ, Bool, true, false, List, Option, refl, sym, ap, ◌∙◌, subst}
 use Rattle.std.specs.List.Sorted.{IsStrictlySortedBy}
 use Rattle.std.specs.Map.{keys_of}
-use Rattle.std.specs.Str.{IsUtf8}
-use Rattle.sc_laws.proofs.BoolLaws.{never}
+use Rattle.std.specs.Str.{bytes_eq, IsUtf8}
+use Rattle.sc_laws.proofs.BoolLaws.{and_first, and_second, never}
 use Rattle.sc_lists.proofs.TextLaws.{bytes_eq_true}
 use Rattle.sc_names.specs.declared.uid.Uid.{Uid}
 use Rattle.sc_names.specs.Uids.{text_cmp}
+use Rattle.sc_schema.specs.declared.ty.EntityKind.{EntityKind}
 use Rattle.sc_schema.specs.Declarations.{Declarations}
 use Rattle.sc_values.specs.declared.value.Value.{Value, Value-F, out-Value, roll-Value, roll-out-Value}
 use Rattle.sc_values.specs.declared.value.Value.TheVariants as value
@@ -15,7 +16,8 @@ use Rattle.sc_values.specs.declared.value.Value.TheOpen as v
 use Rattle.sc_values.specs.Order.{value_cmp}
 use Rattle.sc_values.specs.Proper.{IsProper, IsProperLevel}
 use Rattle.sc_values.specs.Records.{Fields}
-use Rattle.sc_values.proofs.LevelLaws.{in_String, in_Entity, in_Set, in_Record}
+use Rattle.sc_values.proofs.LevelLaws.{in_String, in_Set, in_Record}
+use Rattle.sc_world.specs.Choices.{is_choice}
 use Rattle.sc_world.specs.Conforms.{is_string, is_entity_of, is_set_of}
 use Rattle.sc_world.specs.Stores.{Entities}
 use Rattle.sc_sorts.specs.declared.sort.Sort.{Sort}
@@ -27,7 +29,8 @@ use Rattle.sc_sorts.specs.Defaults.{is_option}
 use Rattle.sc_sorts.specs.Inside.{SortFields}
 use Rattle.sc_sorts.proofs.OutLaws.{out_String, out_Entity, out_Set, out_Record}
 use Rattle.sc_terms.specs.Values.{Val, it, maybe, is_maybe}
-use Rattle.sc_term_laws.specs.Fitting.{Seen, fits, is_record_of, IsOfSort, IsKnown, NamesKnown, NamesKnownLevel, Fits, as_value, as_option}
+use Rattle.sc_term_laws.specs.Fitting.{Seen, kind_listed, fits, is_record_of, IsOfSort, Fits, as_value, as_option}
+use Rattle.sc_term_laws.proofs.ChoicesLaws.{ids_in}
 use Rattle.sc_term_laws.proofs.FitLaws as fit
 use Rattle.sc_term_laws.proofs.FitLaws.{sights_of}
 use Rattle.sc_term_laws.proofs.FitVals.{fits_at, no_option_at}
@@ -41,9 +44,14 @@ string_by : (x : Value) (y : Value-F Value) → out-Value x ≡ y → is_string 
 string_by x (v.String text) e h = (text, sym (roll-out-Value x) ∙ ap roll-Value e ∙ rolls-String text)
 string_by x _ e h = absurd cc
 
-entity_by : (name : List ℕ) (x : Value) (y : Value-F Value) → out-Value x ≡ y → is_entity_of name y ≡ true → (u : Uid) × (x ≡ value.Entity u) × (u.type_name ≡ name)
-entity_by name x (v.Entity u) e h = (u, sym (roll-out-Value x) ∙ ap roll-Value e ∙ rolls-Entity u, bytes_eq_true u.type_name name h)
-entity_by name x _ e h = absurd cc
+entity_by : (kind : EntityKind) (x : Value) (y : Value-F Value) → out-Value x ≡ y → is_entity_of kind y ≡ true → (u : Uid) × (x ≡ value.Entity u) × (u.type_name ≡ kind.name) × (is_choice kind.choices u.id ≡ true)
+entity_by kind x (v.Entity u) e h = (
+  u,
+  sym (roll-out-Value x) ∙ ap roll-Value e ∙ rolls-Entity u,
+  bytes_eq_true u.type_name kind.name (and_first (bytes_eq u.type_name kind.name) (is_choice kind.choices u.id) h),
+  and_second (bytes_eq u.type_name kind.name) (is_choice kind.choices u.id) h,
+)
+entity_by kind x _ e h = absurd cc
 
 record_by : (shape : List (List ℕ × Seen)) (x : Value) (y : Value-F Value) → out-Value x ≡ y → is_record_of shape y ≡ true → (r : Fields) × (x ≡ value.Record r)
 record_by shape x (v.Record r) e h = (r, sym (roll-out-Value x) ∙ ap roll-Value e ∙ value_rolls-Record r)
@@ -62,12 +70,12 @@ pub record IsAString (x : Val) : Type 0 where
   pub text : IsUtf8 bytes
 
 module _ (d : Declarations) (es : Entities) where
-  -- an entity of a type, which is stored or the default
-  pub record IsAnEntity (name : List ℕ) (x : Val) : Type 0 where
+  -- an entity of a type, which is one of those that its sort lists if it lists any
+  pub record IsAnEntity (name : List ℕ) (us : List Uid) (x : Val) : Type 0 where
     pub uid : Uid
     pub is : x ≡ it (value.Entity uid)
     pub named : uid.type_name ≡ name
-    pub known : IsKnown d es uid
+    pub chosen : is_choice (ids_in us) uid.id ≡ true
 
   -- a record with these fields, whose names ascend
   pub record IsARecord (fs : SortFields) (x : Val) : Type 0 where
@@ -106,16 +114,16 @@ module _ (d : Declarations) (es : Entities) where
       let string = string_by plain.0 (out-Value plain.0) refl test in
       record { bytes = string.0; is = plain.1 ∙ ap it string.1; text = (in_String IsProperLevel string.0).0 (subst IsProper string.1 plain.2.proper) }
 
-  pub entity_value : (name : List ℕ) (us : List Uid) (x : Val) → Fits d es (sort.Entity name us) x → IsAnEntity name x
+  pub entity_value : (name : List ℕ) (us : List Uid) (x : Val) → Fits d es (sort.Entity name us) x → IsAnEntity name us x
   entity_value name us x h =
       let plain = plain_value (sort.Entity name us) x h (no_option_at (sort.Entity name us) (s.Entity name us) (out_Entity name us) refl) in
-      let test : is_entity_of name (out-Value plain.0) ≡ true = ap (λ (z : Value → Bool). z plain.0) (sym (fits_at (sort.Entity name us) (s.Entity name us) (sort_rolls-Entity name us))) ∙ plain.2.of_sort in
-      let entity = entity_by name plain.0 (out-Value plain.0) refl test in
+      let test : is_entity_of (kind_listed name us) (out-Value plain.0) ≡ true = ap (λ (z : Value → Bool). z plain.0) (sym (fits_at (sort.Entity name us) (s.Entity name us) (sort_rolls-Entity name us))) ∙ plain.2.of_sort in
+      let entity = entity_by (kind_listed name us) plain.0 (out-Value plain.0) refl test in
       record {
         uid = entity.0;
         is = plain.1 ∙ ap it entity.1;
         named = entity.2;
-        known = (in_Entity (NamesKnownLevel d es) entity.0).0 (subst (NamesKnown d es) entity.1 plain.2.named);
+        chosen = entity.3;
       }
 
   pub record_value : (fs : SortFields) (x : Val) → Fits d es (sort.Record fs) x → IsARecord fs x

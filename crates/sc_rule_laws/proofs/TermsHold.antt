@@ -1,21 +1,20 @@
 -- The rules whose truth rests on the sorts of terms, or on what is stored, are true of terms in each well-formed world of a lawful schema.
-use Rattle.std.proofs.Common.{◌≡◌, ◌&&◌, ◌||◌, ◌==◌, ℕ, Bool, true, false, not, cond, inl, inr, List, [], ◌∷◌, length, Option, Some, None, Contains, refl, sym, ap, ◌∙◌, subst}
+use Rattle.std.proofs.Common.{inl, ◌≡◌, ◌&&◌, ◌||◌, ◌==◌, ℕ, Bool, true, false, not, cond, inr, List, [], ◌∷◌, length, Option, Some, None, Contains, refl, sym, ap, ◌∙◌, subst}
 use Rattle.std.specs.List.{All, list_all, list_any}
 use Rattle.std.specs.Map.{lookup}
 use Rattle.std.specs.Str.{bytes_eq}
 use Rattle.std.proofs.lemmas.List.Elements.{All-contains}
 use Rattle.std.proofs.lemmas.Map.Views.{Contains-from_lookup}
-use Rattle.std.proofs.lemmas.Slice.Eq.{bytes_eq-Decides}
 use Rattle.sc_lists.proofs.MemberLaws.{Has-from_Contains, Contains-from_Has}
 use Rattle.sc_lists.specs.Members.{Has}
 use Rattle.sc_laws.proofs.BoolLaws.{and_first, and_second, never}
-use Rattle.sc_lists.proofs.ListLaws.{all_element, contains_map}
+use Rattle.sc_lists.proofs.ListLaws.{all_element}
 use Rattle.sc_laws.proofs.OptionLaws.{same_some, some_of, option_map_some}
 use Rattle.sc_lists.proofs.TextLaws.{bytes_eq_true}
 use Rattle.sc_names.specs.declared.uid.Uid.{Uid}
 use Rattle.sc_schema.specs.declared.declarations.Action.{Action}
 use Rattle.sc_schema.specs.declared.declarations.Env.{Env}
-use Rattle.sc_schema.specs.Declarations.{Declarations, action, action_uids, action_ancestors, is_action_type, tags_of}
+use Rattle.sc_schema.specs.Declarations.{Declarations, action, action_ancestors, is_action_type, tags_of}
 use Rattle.sc_schema.specs.Lawful.{IsLawful}
 use Rattle.sc_schema.proofs.LookupLaws.{action_found, action_declared}
 use Rattle.sc_values.specs.declared.value.Value.{Value, Value-F}
@@ -23,6 +22,7 @@ use Rattle.sc_values.specs.declared.value.Value.TheVariants as value
 use Rattle.sc_values.specs.Records.{Fields, field}
 use Rattle.sc_values.proofs.OutLaws as out
 use Rattle.sc_world.specs.declared.world.World.{World}
+use Rattle.sc_world.specs.Choices.{is_choice}
 use Rattle.sc_world.specs.Stores.{stored}
 use Rattle.sc_world.specs.WellFormed.{Entry, IsAction, IsStored, IsWellFormed}
 use Rattle.sc_world.proofs.FillLaws.{of_stored}
@@ -31,7 +31,7 @@ use Rattle.sc_sorts.specs.declared.sort.Sort.TheVariants as sort
 use Rattle.sc_sorts.specs.declared.sort.Sort.TheVariants.{rolls-Record, rolls-Entity}
 use Rattle.sc_sorts.specs.declared.sort.Sort.TheOpen as s
 use Rattle.sc_sorts.specs.contracts.sort.SortPartialEq.TheImpl.{ghosts as sorts}
-use Rattle.sc_sorts.specs.Defaults.{is_option, default_uid}
+use Rattle.sc_sorts.specs.Defaults.{is_option}
 use Rattle.sc_sorts.specs.Entities.{choices_of}
 use Rattle.sc_sorts.specs.Inside.{SortField, SortFields, field_sort, member_sort}
 use Rattle.sc_sorts.proofs.EveryLaws.{in_Entity}
@@ -48,11 +48,11 @@ use Rattle.sc_terms.specs.Values.{Val, it, val, value_in, option_in, fields_seen
 use Rattle.sc_terms.proofs.RecordValues.{field_is}
 use Rattle.sc_term_laws.specs.Judging.{IsTermOf, IsTerm, HaveSort}
 use Rattle.sc_term_laws.specs.Judging as judged
-use Rattle.sc_term_laws.specs.Fitting.{Seen, is_record_of, Fits, IsKnown}
+use Rattle.sc_term_laws.specs.Fitting.{Seen, is_record_of, Fits}
 use Rattle.sc_term_laws.specs.LawfulSorts.{IsSortLevel, IsSortOf}
 use Rattle.sc_term_laws.specs.Tests as test
 use Rattle.sc_term_laws.proofs.BinaryJudged.{binary_kept}
-use Rattle.sc_term_laws.proofs.ChoicesLaws.{no_choices}
+use Rattle.sc_term_laws.proofs.ChoicesLaws.{ids_in, choice_there}
 use Rattle.sc_term_laws.proofs.DefaultTypeLaws.{no_option}
 use Rattle.sc_term_laws.proofs.FitLaws.{sights_of, field_may_lack}
 use Rattle.sc_term_laws.proofs.FitVals.{fits_at}
@@ -65,14 +65,14 @@ use Rattle.sc_rule_laws.specs.Terms as term
 use Rattle.sc_rule_laws.specs.Terms.{one_sort, fields_level, fields_of, members, choices_level, choices_in}
 use Rattle.sc_rule_laws.specs.Equal.{eq3, eq4, eq7}
 use Rattle.sc_rule_laws.specs.Sets.{se2, se8}
-use Rattle.sc_rule_laws.specs.Entities.{en4, en5, en6, en7, en8}
+use Rattle.sc_rule_laws.specs.Entities.{en4, en5, en6, en7, chosen_of, is_acting, en8, eq9}
 use Rattle.sc_rule_laws.specs.Strings.{Pattern, Signs, AreFew, st2, st3}
-use Rattle.sc_rule_laws.proofs.MemberLaws.{all_has, filter_kept}
+use Rattle.sc_rule_laws.proofs.MemberLaws.{all_has}
 use Rattle.sc_rule_laws.proofs.FieldLaws.{one_record}
 use Rattle.sc_rule_laws.proofs.SortValues.{IsASet, IsARecord, maybe_is, option_value, set_value, string_value, entity_value, record_value}
 use Rattle.sc_rule_laws.proofs.EqualSound.{FieldsTell, IsAnOption, one_sort_is, eq3_holds, eq4_holds, eq7_holds}
 use Rattle.sc_rule_laws.proofs.SetSound.{ArePlain, se2_holds, se8_holds}
-use Rattle.sc_rule_laws.proofs.EntitySound.{IsAText, StoresAction, en4_holds, en5_holds, en6_at, en7_holds, en8_at}
+use Rattle.sc_rule_laws.proofs.EntitySound.{IsAText, StoresAction, en4_holds, en5_holds, en6_at, en7_holds, chosen_at}
 use Rattle.sc_rule_laws.proofs.StringSound.{AreStrings, st2_holds, st3_holds}
 
 -- ---- fields
@@ -96,12 +96,6 @@ unknown_by false c k o e h = h e
 unknown : (name : List ℕ) (fs : SortFields) → lookup (bytes_eq name) fs ≡ None → list_any (λ (a : List ℕ × Seen). bytes_eq name a.0) (sights_of fs) ≡ false
 unknown name [] e = refl
 unknown name (f ∷ fs) e = unknown_by (bytes_eq name f.0) (list_any (λ (a : List ℕ × Seen). bytes_eq name a.0) (sights_of fs)) f.1 (lookup (bytes_eq name) fs) e (unknown name fs)
-
--- ---- choices
-
-first_chosen : (name : List ℕ) (us : List Uid) (u : Uid) → u ≡ default_uid name us → not (length us == 0) ≡ true → Has us u
-first_chosen name [] u e t = absurd cc
-first_chosen name (v ∷ us) u e t = inl (sym e)
 
 module _ (d : Declarations) (env : Env) (written : List Uid) (w : World) (lawful : IsLawful d) (well : IsWellFormed d env written w) where
   abbrev Is : Tree → Type 0
@@ -266,37 +260,31 @@ module _ (d : Declarations) (env : Env) (written : List Uid) (w : World) (lawful
   en7_true (one (unary.Ancestors k) (leaf (leafs.Literal (literal.Entity u choices)))) x = en7_holds w d k u choices x (stores u)
   en7_true _ x = tt
 
-  acts : (name : List ℕ) → not (length (choices_of d name) == 0) ≡ true → is_action_type d name ≡ true
-  acts name t = by (is_action_type d name) refl
-    where
-      by : (b : Bool) → is_action_type d name ≡ b → b ≡ true
-      by true e = refl
-      by false e = never _ (sym t ∙ ap (λ (us : List Uid). not (length us == 0)) (no_choices d name e))
+  -- ---- entities that their types list
 
-  -- an action that is stored is declared, and the default is the first that is
-  among : (name : List ℕ) (u : Uid) → u.type_name ≡ name → IsKnown d w.store u → not (length (choices_of d name) == 0) ≡ true → Has (choices_of d name) u
-  among name u e (inl there) t =
-      let is = stored_action u there (ap (is_action_type d) e ∙ acts name t) in
-      let declared : Contains (action_uids d) u = subst (Contains (action_uids d)) (sym is.2) (contains_map (λ (a : Action). a.uid) d.actions is.0 is.1) in
-      filter_kept (λ (v : Uid). bytes_eq name v.type_name) (action_uids d) u (Has-from_Contains (action_uids d) u declared) ((bytes_eq-Decides name u.type_name).1 (sym e))
-  among name u e (inr is) t =
-      first_chosen u.type_name (choices_of d name) u (is ∙ ap (λ (n : List ℕ). default_uid u.type_name (choices_of d n)) e) t
+  some_listed : (us : List Uid) → not (length us == 0) ≡ true → us ≡ [] → ⊥
+  some_listed [] t e = absurd cc
+  some_listed (u ∷ us) t e = absurd cc
 
-  chosen_at : (x : Tree) → Is x → (y : Sort-F Sort) → out-Sort (tree_sort x) ≡ y → not (length (choices_level y) == 0) ≡ true → (u : Uid) × (val x w ≡ it (value.Entity u)) × Has (choices_level y) u
-  chosen_at x h (s.Entity name us) e t =
+  chosen_among : (x : Tree) → Is x → (y : Sort-F Sort) → out-Sort (tree_sort x) ≡ y → not (length (choices_level y) == 0) ≡ true → (u : Uid) × (val x w ≡ it (value.Entity u)) × Has (choices_level y) u
+  chosen_among x h (s.Entity name us) e t =
       let k : tree_sort x ≡ sort.Entity name us = at_level (tree_sort x) (s.Entity name us) e ∙ rolls-Entity name us in
       let entity = entity_value d w.store name us (val x w) (fit_at (sort.Entity name us) x k h) in
       let level = (in_Entity (IsSortLevel d) name us).0 (subst (IsSortOf d) k (sort_lawful d env written w lawful well (tree_sort x) x h)) in
-      let listed : us ≡ choices_of d name = level.1 in (
-        entity.uid,
-        entity.is,
-        subst (λ (vs : List Uid). Has vs entity.uid) (sym listed)
-            (among name entity.uid entity.named entity.known (ap (λ (vs : List Uid). not (length vs == 0)) (sym listed) ∙ t)),
-      )
-  chosen_at x h _ e t = absurd cc
+      let listed : us ≡ choices_of d name = level.1 in
+      let there : Contains (choices_of d name) entity.uid =
+      choice_there d name entity.uid entity.named (ap (λ (vs : List Uid). is_choice (ids_in vs) entity.uid.id) (sym listed) ∙ entity.chosen) (λ none. some_listed us t (listed ∙ none)) in
+      (entity.uid, entity.is, Has-from_Contains us entity.uid (subst (λ (vs : List Uid). Contains vs entity.uid) (sym listed) there))
+  chosen_among x h _ e t = absurd cc
+
+  chosen_true : (x : Tree) (asked : Bool) → Is x → Holds w (chosen_of d x asked (choices_in x))
+  chosen_true x asked h = chosen_at w d x asked (choices_in x) (chosen_among x h (out-Sort (tree_sort x)) refl)
 
   pub en8_true : (x : Tree) → Is x → Holds w (en8 d x)
-  en8_true x h = en8_at w d x (choices_in x) (chosen_at x h (out-Sort (tree_sort x)) refl)
+  en8_true x h = chosen_true x (is_acting d x) h
+
+  pub eq9_true : (x : Tree) → Is x → Holds w (eq9 d x)
+  eq9_true x h = chosen_true x (not (is_acting d x)) h
 
   -- ---- strings
 

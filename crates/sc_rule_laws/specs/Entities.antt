@@ -1,11 +1,12 @@
 -- The rules of what is stored of entities.
-use Rattle.std.specs.Prelude.{◌≡◌, ◌==◌, ℕ, Bool, true, false, not, List, [], ◌∷◌, map, length, Option, Some, None, if◌then◌else◌, refl}
+use Rattle.std.specs.Prelude.{◌≡◌, ◌==◌, ◌&&◌, ℕ, Bool, true, false, not, List, [], ◌∷◌, map, length, Option, Some, None, if◌then◌else◌, refl}
 use Rattle.std.specs.List.{list_any}
 use Rattle.std.specs.Ordering.{is_eq}
 use Rattle.sc_names.specs.declared.uid.Uid.{Uid}
 use Rattle.sc_names.specs.Uids.{uid_cmp}
-use Rattle.sc_schema.specs.Declarations.{Declarations, action_ancestors}
-use Rattle.sc_sorts.specs.declared.sort.Sort.{Sort, out-Sort}
+use Rattle.sc_schema.specs.Declarations.{Declarations, action_ancestors, is_action_type}
+use Rattle.sc_sorts.specs.declared.sort.Sort.{Sort, Sort-F, out-Sort}
+use Rattle.sc_sorts.specs.declared.sort.Sort.TheOpen as s
 use Rattle.sc_sorts.specs.contracts.sort.SortPartialEq.TheImpl.{ghosts as sorts}
 use Rattle.sc_sorts.specs.Entities.{of_type_name}
 use Rattle.sc_sorts.specs.Inside.{name_in}
@@ -92,12 +93,25 @@ en7 d (one (unary.Ancestors k) (leaf (Literal (literal.Entity u choices)))) x =
     en7_by d (above k (leaf (Literal (literal.Entity u choices)))) (name_in (out-Sort k)) (action_ancestors d u) x
 en7 d _ x = None
 
--- EN8: an entity of a type of actions is a declared one
-abbrev pub en8_of : Declarations → Tree → List Uid → Said
-en8_of d x us = given (not (length us == 0)) (map (λ u. so (equal_term x (entity d u))) us)
+-- an entity is one of those that its sort lists, if this is asked of it
+abbrev pub chosen_of : Declarations → Tree → Bool → List Uid → Said
+chosen_of d x asked us = given (asked && not (length us == 0)) (map (λ u. so (equal_term x (entity d u))) us)
 
+-- whether a term is an entity of a type of actions
+abbrev pub is_acting_level : Declarations → Sort-F Sort → Bool
+is_acting_level d (s.Entity name choices) = is_action_type d name
+is_acting_level d _ = false
+
+abbrev pub is_acting : Declarations → Tree → Bool
+is_acting d x = is_acting_level d (out-Sort (tree_sort x))
+
+-- EN8: an entity of a type of actions is a declared one
 abbrev pub en8 : Declarations → Tree → Said
-en8 d x = en8_of d x (choices_in x)
+en8 d x = chosen_of d x (is_acting d x) (choices_in x)
+
+-- EQ9: an entity of an enumerated type is one of its choices
+abbrev pub eq9 : Declarations → Tree → Said
+eq9 d x = chosen_of d x (not (is_acting d x)) (choices_in x)
 
 -- ---- worked rows
 
@@ -111,9 +125,12 @@ en2_of_keys_and_ancestors x e f k = refl
 pub en4_row : (e : Tree) → en4 e ≡ Some (unless (member e (above (tree_sort e) e)) ∷ [])
 en4_row e = refl
 
-pub en8_of_two : (d : Declarations) (x : Tree) (u v : Uid) → en8_of d x (u ∷ v ∷ [])
+pub chosen_of_two : (d : Declarations) (x : Tree) (u v : Uid) → chosen_of d x true (u ∷ v ∷ [])
     ≡ Some (so (equal_term x (entity d u)) ∷ so (equal_term x (entity d v)) ∷ [])
-en8_of_two d x u v = refl
+chosen_of_two d x u v = refl
 
-pub en8_of_none : (d : Declarations) (x : Tree) → en8_of d x [] ≡ None
-en8_of_none d x = refl
+pub chosen_of_none : (d : Declarations) (x : Tree) → chosen_of d x true [] ≡ None
+chosen_of_none d x = refl
+
+pub chosen_of_others : (d : Declarations) (x : Tree) (us : List Uid) → chosen_of d x false us ≡ None
+chosen_of_others d x us = refl

@@ -49,7 +49,7 @@ fields_level _ = None
 abbrev pub fields_of : Tree → Option SortFields
 fields_of t = fields_level (out-Sort (tree_sort t))
 
--- the entities that a sort lists: of a type of actions the declared ones
+-- the entities that a sort lists: the declared ones of a type of actions, the choices of an enumerated type
 abbrev pub choices_level : Sort-F Sort → List Uid
 choices_level (s.Entity name choices) = choices
 choices_level _ = []

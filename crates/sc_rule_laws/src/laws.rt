@@ -7,7 +7,7 @@ ghost use Rattle.sc_terms.specs.Trees.{Tree};
 ghost use Rattle.sc_rule_laws.specs.Signed.{Holds};
 ghost use Rattle.sc_rule_laws.specs.Equal.{eq1, eq2, eq3, eq4, eq5, eq6, eq7, eq8};
 ghost use Rattle.sc_rule_laws.specs.Sets.{se1, se2, se3, se4, se5, se6, se7, se8, se9, se10};
-ghost use Rattle.sc_rule_laws.specs.Entities.{en1, en2, en3, en4, en5, en6, en7, en8};
+ghost use Rattle.sc_rule_laws.specs.Entities.{en1, en2, en3, en4, en5, en6, en7, en8, eq9};
 ghost use Rattle.sc_rule_laws.specs.Strings.{Pattern, Signs, AreFew, st1, st2, st3};
 ghost use Rattle.sc_rule_laws.specs.Laws.{InWorlds};
 
@@ -44,7 +44,8 @@ pub fn set_laws()
 
 /// The rules of entities: equal ones have alike attributes, ancestors, keys and tags; ancestors are
 /// transitive and acyclic; a tag without a key is the default; actions have their declared
-/// ancestors, and an entity of a type of actions is a declared one.
+/// ancestors, an entity of a type of actions is a declared one, and one of an enumerated type is a
+/// choice.
 pub fn entity_laws()
     ensures attributes { (w : AnyWorld) (x y : Tree) (i : ℕ) (z : Option Tree) → Holds w (en1 x y i z) }
     ensures sets { (w : AnyWorld) (x s z : Tree) → Holds w (en2 x s z) }
@@ -53,7 +54,8 @@ pub fn entity_laws()
     ensures transitive { InWorlds (λ d IsTerm w. (e f x u : Tree) → Holds w (en5 e f x u)) }
     ensures absent { InWorlds (λ d IsTerm w. (a : Tree) → IsTerm a → Holds w (en6 a)) }
     ensures declared { InWorlds (λ d IsTerm w. (s x : Tree) → Holds w (en7 d s x)) }
-    ensures chosen { InWorlds (λ d IsTerm w. (x : Tree) → IsTerm x → Holds w (en8 d x)) }
+    ensures acting { InWorlds (λ d IsTerm w. (x : Tree) → IsTerm x → Holds w (en8 d x)) }
+    ensures enumerated { InWorlds (λ d IsTerm w. (x : Tree) → IsTerm x → Holds w (eq9 d x)) }
 {}
 
 /// The rules of strings: equal ones match the same patterns, and of as many strings as there are

@@ -51,7 +51,7 @@ part_lower t.Long v has = absurd (contains_nothing v has)
 part_lower t.String v has = absurd (contains_nothing v has)
 part_lower t.Decimal v has = absurd (contains_nothing v has)
 part_lower t.Ip v has = absurd (contains_nothing v has)
-part_lower (t.Entity name) v has = absurd (contains_nothing v has)
+part_lower (t.Entity kind) v has = absurd (contains_nothing v has)
 
 first_step : (y : Ty-F ℕ) → 1 ≤ levels_step y
 first_step (t.Set m) = omega arith
@@ -63,7 +63,7 @@ first_step t.Long = omega arith
 first_step t.String = omega arith
 first_step t.Decimal = omega arith
 first_step t.Ip = omega arith
-first_step (t.Entity name) = omega arith
+first_step (t.Entity kind) = omega arith
 
 first_level : (u : Ty) → 1 ≤ levels u
 first_level u = omega (arith, levels-out u, first_step (map-Ty Ty ℕ levels (out-Ty u)))
@@ -145,7 +145,7 @@ last_layer t.Long = last_itself t.Long refl
 last_layer t.String = last_itself t.String refl
 last_layer t.Decimal = last_itself t.Decimal refl
 last_layer t.Ip = last_itself t.Ip refl
-last_layer (t.Entity name) = last_itself (t.Entity name) refl
+last_layer (t.Entity kind) = last_itself (t.Entity kind) refl
 
 pub last_level : (u : Ty) → (v : Ty) × StandsAt u (levels u) v
 last_level = ind-Ty HasLast (λ x y e. subst (λ z. HasLast (roll-Ty z)) e (last_layer y))
@@ -170,7 +170,7 @@ module _ (n : ℕ) (counted : (u : Ty) → levels u ≤ n → nodes u ≡ length
   counted_step t.String h = refl
   counted_step t.Decimal h = refl
   counted_step t.Ip h = refl
-  counted_step (t.Entity name) h = refl
+  counted_step (t.Entity kind) h = refl
 
 pub nodes_counted : (n : ℕ) (u : Ty) → levels u ≤ n → nodes u ≡ length (standing n u)
 nodes_counted zero u h = absurd (omega (arith, h, first_level u))

@@ -1,6 +1,7 @@
 -- What holds at every level of a type holds of it and at every level of the types inside it, and the other way round.
 use Rattle.std.proofs.Common.{◌≡◌, ℕ, List, [], ◌∷◌, map, refl, sym, ap, ◌∙◌, subst}
 use Rattle.std.specs.List.{AllByRecursion}
+use Rattle.sc_schema.specs.declared.ty.EntityKind.{EntityKind}
 use Rattle.sc_schema.specs.declared.ty.Presence.{Presence}
 use Rattle.sc_schema.specs.declared.ty.Ty.{Ty, Ty-F, roll-Ty, map-Ty, ind-Ty, every-Ty, every_here-Ty, every_held-Ty, every_made-Ty, out-roll-Ty}
 use Rattle.sc_schema.specs.declared.ty.Ty.TheVariants as ty
@@ -35,8 +36,8 @@ module _ (P : Ty-F Ty → Type 0) where
   pub every_Ip : P t.Ip → every-Ty P ty.Ip
   every_Ip h = subst (every-Ty P) rolls-Ip (made t.Ip h)
 
-  pub every_Entity : (name : List ℕ) → P (t.Entity name) → every-Ty P (ty.Entity name)
-  every_Entity name h = subst (every-Ty P) (rolls-Entity name) (made (t.Entity name) h)
+  pub every_Entity : (kind : EntityKind) → P (t.Entity kind) → every-Ty P (ty.Entity kind)
+  every_Entity kind h = subst (every-Ty P) (rolls-Entity kind) (made (t.Entity kind) h)
 
   pub every_Set : (x : Ty) → P (t.Set x) → every-Ty P x → every-Ty P (ty.Set x)
   every_Set x h k = subst (every-Ty P) (rolls-Set x) (made (t.Set (x, k)) h)
@@ -67,7 +68,7 @@ module _ (P : Ty-F Ty → Type 0) where
   set_member x t.String e = cc
   set_member x t.Decimal e = cc
   set_member x t.Ip e = cc
-  set_member x (t.Entity name) e = cc
+  set_member x (t.Entity kind) e = cc
   set_member x (t.Set z) e = let same : z.0 ≡ x = cc in subst (every-Ty P) same z.1
   set_member x (t.Record es) e = cc
 
@@ -86,7 +87,7 @@ module _ (P : Ty-F Ty → Type 0) where
   record_fields fields t.String e = cc
   record_fields fields t.Decimal e = cc
   record_fields fields t.Ip e = cc
-  record_fields fields (t.Entity name) e = cc
+  record_fields fields (t.Entity kind) e = cc
   record_fields fields (t.Set z) e = cc
   record_fields fields (t.Record es) e =
       let same : map (λ (z : List ℕ × Presence × Held). (z.0, z.1, z.2.0)) es ≡ fields = cc in
@@ -118,7 +119,7 @@ module _ (P Q : Ty-F Ty → Type 0) (weaker : (x : Ty-F Ty) → P x → Q x) whe
   level_weaker t.String h = made Q t.String (weaker t.String (every_level P t.String h))
   level_weaker t.Decimal h = made Q t.Decimal (weaker t.Decimal (every_level P t.Decimal h))
   level_weaker t.Ip h = made Q t.Ip (weaker t.Ip (every_level P t.Ip h))
-  level_weaker (t.Entity name) h = made Q (t.Entity name) (weaker (t.Entity name) (every_level P (t.Entity name) h))
+  level_weaker (t.Entity kind) h = made Q (t.Entity kind) (weaker (t.Entity kind) (every_level P (t.Entity kind) h))
   level_weaker (t.Set k) h = subst (every-Ty Q) (sym (rolls-Set k.0)) (every_Set Q k.0 (weaker (t.Set k.0) (every_level P (t.Set k.0) h)) (k.1 (every_member P k.0 h)))
   level_weaker (t.Record ks) h =
       let fields = known_fields ks in

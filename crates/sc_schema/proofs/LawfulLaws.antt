@@ -10,9 +10,10 @@ use Rattle.std.specs.declared.cmp.Ordering.TheVariants.{Less}
 use Rattle.std.proofs.lemmas.Str.{IsUtf8-from_ascii}
 use Rattle.sc_lists.proofs.OrderingLaws.{is_lt_true}
 use Rattle.sc_names.specs.Uids.{text_cmp, uid_cmp}
+use Rattle.sc_schema.specs.declared.ty.EntityKind.{EntityKind}
 use Rattle.sc_schema.specs.declared.ty.Ty.TheVariants.{Record}
 use Rattle.sc_schema.specs.Declarations.{Declarations}
-use Rattle.sc_schema.specs.Lawful.{AreAscending, IsEntityType, IsLevelOver, IsRecordTypeOver, IsRecordTypeOf}
+use Rattle.sc_schema.specs.Lawful.{AreAscending, IsEntityKind, IsLevelOver, IsRecordTypeOver, IsRecordTypeOf}
 use Rattle.sc_schema.proofs.EveryTypeLaws.{every_Record}
 
 -- ---- texts that are known
@@ -52,8 +53,8 @@ no_uids_ascend = sorted uid_cmp [] refl
 
 -- ---- types
 
-pub no_fields_over : (known : List ℕ → Type 0) → IsRecordTypeOver known (Record [])
+pub no_fields_over : (known : EntityKind → Type 0) → IsRecordTypeOver known (Record [])
 no_fields_over known = record { fields = []; record_type = refl; proper = every_Record (IsLevelOver known) [] (no_names_ascend, tt) tt }
 
 pub no_fields_lawful : (s : Declarations) → IsRecordTypeOf s (Record [])
-no_fields_lawful s = no_fields_over (IsEntityType s)
+no_fields_lawful s = no_fields_over (IsEntityKind s)

@@ -1,11 +1,12 @@
 -- What a schema declares.
-use Rattle.std.specs.Prelude.{◌&&◌, ℕ, List, [], ◌∷◌, map, fold, Bool, Option, Some, None, option_map, option_and_then, find, if◌then◌else◌}
+use Rattle.std.specs.Prelude.{◌&&◌, ℕ, List, [], ◌∷◌, map, fold, Bool, Option, Some, None, option_map, option_and_then, unwrap_or, find, if◌then◌else◌}
 use Rattle.std.specs.List.{flat_map, list_any}
 use Rattle.std.specs.Ordering.{match_ordering, ordering_then}
 use Rattle.std.specs.declared.cmp.Ordering.{Ordering}
 use Rattle.std.specs.Str.{bytes_eq}
 use Rattle.sc_names.specs.declared.uid.Uid.{Uid}
 use Rattle.sc_names.specs.Uids.{text_cmp, uid_cmp}
+use Rattle.sc_schema.specs.declared.ty.EntityKind.{EntityKind}
 use Rattle.sc_schema.specs.declared.ty.Ty.{Ty}
 use Rattle.sc_schema.specs.declared.ty.Ty.TheVariants.{Record}
 use Rattle.sc_schema.specs.declared.declarations.EntityType.{EntityType}
@@ -65,6 +66,22 @@ attrs_of s name = if is_action_type s name then Some (Record [])
 abbrev pub tags_of : Declarations → List ℕ → Option Ty
 tags_of s name = if is_action_type s name then None
     else option_and_then (λ (t : EntityType). t.tags) (entity_type s name)
+
+-- the ids that entities of a type may have, if it is enumerated, and none otherwise
+abbrev pub choices_of : Declarations → List ℕ → List (List ℕ)
+choices_of s name = unwrap_or (option_map (λ (t : EntityType). t.choices) (entity_type s name)) []
+
+-- the same where there are some
+abbrev pub some_of : {X : Type 0} → List X → Option (List X)
+some_of [] = None
+some_of (x ∷ xs) = Some (x ∷ xs)
+
+abbrev pub declared_choices : Declarations → List ℕ → Option (List (List ℕ))
+declared_choices s name = some_of (choices_of s name)
+
+-- a type of entities with its choices
+abbrev pub kind_of : Declarations → List ℕ → EntityKind
+kind_of s name = record { name = name; choices = choices_of s name }
 
 -- names that ascend, with one more in its place, where it isn't there
 unfoldable pub with_name : List (List ℕ) → List ℕ → List (List ℕ)

@@ -30,3 +30,4 @@ pub record IsIndexOf (s : Declarations) (i : Index) : Type 0 where
   pub above : IsAbove s.actions i.above_actions.entries
   pub none : i.no_attributes ≡ []
   pub bare : i.shape_of_actions ≡ Record []
+  pub free : i.no_choices ≡ []

@@ -1,18 +1,19 @@
 -- What holds of each schema: what it lists ascends, what it names is declared, ancestors of ancestors are ancestors,
 -- shapes and contexts are record types, and no type is larger than a type may be.
-use Rattle.std.specs.Prelude.{◌≡◌, ℕ, List, [], map, unwrap_or, Contains, false, IsSome, IfSome, ⊤}
-use Rattle.std.specs.List.{AllByRecursion}
+use Rattle.std.specs.Prelude.{◌≡◌, ◌≢◌, ◌≤◌, ℕ, List, [], length, map, unwrap_or, Contains, false, Option, None, IsSome, IfSome, ⊤}
+use Rattle.std.specs.List.{AllByRecursion, IsDistinct}
 use Rattle.std.specs.List.Sorted.{IsStrictlySortedBy}
-use Rattle.std.specs.Str.{IsUtf8}
+use Rattle.std.specs.Str.{IsUtf8, bytes_eq}
 use Rattle.sc_names.specs.declared.uid.Uid.{Uid}
 use Rattle.sc_names.specs.Uids.{text_cmp, uid_cmp}
 use Rattle.sc_schema.specs.declared.ty.Presence.{Presence}
+use Rattle.sc_schema.specs.declared.ty.EntityKind.{EntityKind}
 use Rattle.sc_schema.specs.declared.ty.Ty.{Ty, Ty-F, every-Ty}
 use Rattle.sc_schema.specs.declared.ty.Ty.TheOpen as t
 use Rattle.sc_schema.specs.declared.ty.Ty.TheVariants.{Record}
 use Rattle.sc_schema.specs.declared.declarations.EntityType.{EntityType}
 use Rattle.sc_schema.specs.declared.declarations.Action.{Action}
-use Rattle.sc_schema.specs.Declarations.{Declarations, entity_types, action_uids, entity_type, action, is_action_type, ancestor_types, action_ancestors}
+use Rattle.sc_schema.specs.Declarations.{Declarations, entity_types, action_uids, entity_type, choices_of, action, is_action_type, ancestor_types, action_ancestors}
 use Rattle.sc_schema.specs.Sizes.{IsSmall}
 
 -- names in ascending order, each once
@@ -27,7 +28,7 @@ abbrev pub names_of_fields : List (List ℕ × Presence × Ty) → List (List �
 names_of_fields = map (λ (f : List ℕ × Presence × Ty). f.0)
 
 -- a type, but for the types inside it: the entity type that it names is one of these, and its fields ascend
-abbrev pub IsLevelOver : (List ℕ → Type 0) → Ty-F Ty → Type 0
+abbrev pub IsLevelOver : (EntityKind → Type 0) → Ty-F Ty → Type 0
 IsLevelOver known t.True = ⊥
 IsLevelOver known t.False = ⊥
 IsLevelOver known t.Bool = ⊤
@@ -35,32 +36,36 @@ IsLevelOver known t.Long = ⊤
 IsLevelOver known t.String = ⊤
 IsLevelOver known t.Decimal = ⊤
 IsLevelOver known t.Ip = ⊤
-IsLevelOver known (t.Entity name) = known name
+IsLevelOver known (t.Entity kind) = known kind
 IsLevelOver known (t.Set member) = ⊤
 IsLevelOver known (t.Record fields) =
     AreAscending (names_of_fields fields) × AllByRecursion IsUtf8 (names_of_fields fields)
 
 -- a type over these entity types
-abbrev pub IsTypeOver : (List ℕ → Type 0) → Ty → Type 0
+abbrev pub IsTypeOver : (EntityKind → Type 0) → Ty → Type 0
 IsTypeOver known = every-Ty (IsLevelOver known)
 
 -- a record type over these entity types
-pub record IsRecordTypeOver (known : List ℕ → Type 0) (type : Ty) : Type 0 where
+pub record IsRecordTypeOver (known : EntityKind → Type 0) (type : Ty) : Type 0 where
   pub fields : List (List ℕ × Presence × Ty)
   pub record_type : type ≡ Record fields
   pub proper : IsTypeOver known type
 
+-- a declared entity type, with the choices that it has
+abbrev pub IsEntityKind : Declarations → EntityKind → Type 0
+IsEntityKind s kind = IsEntityType s kind.name × (kind.choices ≡ choices_of s kind.name)
+
 -- the same over the entity types that a schema declares
 abbrev pub IsTypeLevel : Declarations → Ty-F Ty → Type 0
-IsTypeLevel s = IsLevelOver (IsEntityType s)
+IsTypeLevel s = IsLevelOver (IsEntityKind s)
 
 -- a type that a schema may write
 abbrev pub IsTypeOf : Declarations → Ty → Type 0
-IsTypeOf s = IsTypeOver (IsEntityType s)
+IsTypeOf s = IsTypeOver (IsEntityKind s)
 
 -- a record type that a schema may write
 abbrev pub IsRecordTypeOf : Declarations → Ty → Type 0
-IsRecordTypeOf s = IsRecordTypeOver (IsEntityType s)
+IsRecordTypeOf s = IsRecordTypeOver (IsEntityKind s)
 
 -- names of declared entity types, in ascending order, each once
 pub record AreEntityTypes (s : Declarations) (names : List (List ℕ)) : Type 0 where
@@ -71,6 +76,18 @@ pub record AreEntityTypes (s : Declarations) (names : List (List ℕ)) : Type 0 
 abbrev pub IsTypeWithin : Declarations → List (List ℕ) → List ℕ → Type 0
 IsTypeWithin s names name = AllByRecursion (Contains names) (unwrap_or (ancestor_types s name) [])
 
+-- the choices of a type: at most 1,000 texts, each once
+pub record AreChoices (ids : List (List ℕ)) : Type 0 where
+  pub texts : AllByRecursion IsUtf8 ids
+  pub distinct : IsDistinct bytes_eq ids
+  pub few : length ids ≤ 1000
+
+-- entities of an enumerated type have no attributes, tags or ancestors
+pub record IsBare (shape : Ty) (tags : Option Ty) (above : List (List ℕ)) : Type 0 where
+  pub attributes : shape ≡ Record []
+  pub tagless : tags ≡ None
+  pub apart : above ≡ []
+
 pub record IsLawfulType (s : Declarations) (t : EntityType) : Type 0 where
   pub text : IsUtf8 t.name
   pub no_action : is_action_type s t.name ≡ false
@@ -80,6 +97,8 @@ pub record IsLawfulType (s : Declarations) (t : EntityType) : Type 0 where
   pub shape_size : IsSmall t.shape
   pub tag_type : IfSome t.tags (IsTypeOf s)
   pub tag_size : IfSome t.tags IsSmall
+  pub ids : AreChoices t.choices
+  pub bare : t.choices ≢ [] → IsBare t.shape t.tags t.ancestors
 
 -- the actions that an ancestor is in are among these
 abbrev pub IsActionWithin : Declarations → List Uid → Uid → Type 0

@@ -1,12 +1,12 @@
 -- What holds of each schema whose names are looked up: what it names is declared, and each declaration has a name of
 -- its own.
-use Rattle.std.specs.Prelude.{ℕ, List, map, Contains, ◌≡◌, false, IfSome, ⊤}
+use Rattle.std.specs.Prelude.{◌≡◌, ◌≢◌, ℕ, List, [], map, Contains, false, None, IfSome, ⊤}
 use Rattle.std.specs.List.{AllByRecursion, flat_map, list_any, IsDistinct}
 use Rattle.std.specs.Str.{IsUtf8, bytes_eq}
 use Rattle.sc_names.specs.declared.uid.Uid.{Uid}
 use Rattle.sc_schema.specs.declared.ty.Presence.{Presence}
 use Rattle.sc_schema.specs.Declarations.{uid_eq}
-use Rattle.sc_schema.specs.Lawful.{AreAscending}
+use Rattle.sc_schema.specs.Lawful.{AreAscending, AreChoices}
 use Rattle.sc_schema.specs.declared.resolved_action.ResolvedAction.{ResolvedAction}
 use Rattle.sc_schema.specs.declared.resolved_common_type.ResolvedCommonType.{ResolvedCommonType}
 use Rattle.sc_schema.specs.declared.resolved_entity_type.ResolvedEntityType.{ResolvedEntityType}
@@ -58,11 +58,19 @@ IsResolvedLevel s (t.Common name) = Contains (common_names s) name
 abbrev pub IsResolvedType : ResolvedSchema → ResolvedType → Type 0
 IsResolvedType s = every-ResolvedType (IsResolvedLevel s)
 
+-- entities of an enumerated type have no attributes, tags or ancestors
+pub record IsBareType (e : ResolvedEntityType) : Type 0 where
+  pub attributes : e.shape ≡ None
+  pub tagless : e.tags ≡ None
+  pub apart : e.parents ≡ []
+
 pub record IsResolvedEntityType (s : ResolvedSchema) (e : ResolvedEntityType) : Type 0 where
   pub text : IsUtf8 e.name
   pub above : AreDeclared (entity_names s) e.parents
   pub shape_type : IfSome e.shape (IsResolvedType s)
   pub tag_type : IfSome e.tags (IsResolvedType s)
+  pub ids : AreChoices e.choices
+  pub bare : e.choices ≢ [] → IsBareType e
 
 pub record IsResolvedAction (s : ResolvedSchema) (a : ResolvedAction) : Type 0 where
   pub type_text : IsUtf8 a.uid.type_name

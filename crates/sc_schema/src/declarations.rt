@@ -1,5 +1,5 @@
 //! What a schema declares, and the environments of requests.
-use crate::ty::Ty;
+use crate::ty::{Choices, Ty};
 use sc_lists::Seq;
 use sc_names::{Name, Uid};
 
@@ -14,6 +14,8 @@ pub struct EntityType {
     pub shape: Ty,
     /// The type of each tag's value, where entities of the type have tags.
     pub tags: Option<Ty>,
+    /// The ids that its entities may have, if the type is enumerated: then they have no attributes, tags or ancestors.
+    pub choices: Choices,
 }
 
 /// A declared action.

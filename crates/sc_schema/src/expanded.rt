@@ -1,5 +1,5 @@
 //! Schemas whose common types are written out.
-use crate::ty::Ty;
+use crate::ty::{Choices, Ty};
 use sc_lists::Seq;
 use sc_names::{Name, Uid};
 
@@ -14,6 +14,8 @@ pub struct ExpandedEntityType {
     pub shape: Ty,
     /// The type of each tag's value, where entities of the type have tags.
     pub tags: Option<Ty>,
+    /// The ids that its entities may have, if the type is enumerated.
+    pub choices: Choices,
 }
 
 /// An action as a schema file declares it, each common type written out.

@@ -12,8 +12,8 @@ ghost use Rattle.sc_schema.specs.Indices.{IsAbove, IsIndexOf};
 ghost use Rattle.sc_schema.specs.Lawful.{AreAscending, IsLawful};
 
 use crate::declarations::{Action, EntityType, Env};
-use crate::ty::{Attributes, Ty};
-use sc_lists::Seq;
+use crate::ty::{Attributes, Choices, Ty};
+use sc_lists::{Seq, Shared};
 use sc_names::{Name, Uid};
 use std::alloc::{AllocError, Global};
 use std::collections::BTreeMap;
@@ -33,6 +33,8 @@ pub(crate) struct Index {
     pub no_attributes: Attributes,
     /// The type of an action's attributes, of which there are none.
     pub shape_of_actions: Ty,
+    /// No choices, as types have that aren't enumerated.
+    pub no_choices: Choices,
 }
 
 /// What is kept beside these declarations.
@@ -52,6 +54,7 @@ pub(crate) fn index_of(
         above_actions: types_above(alloc, actions)?,
         shape_of_actions: Ty::Record(no_attributes.try_clone()?),
         no_attributes,
+        no_choices: Shared::new(alloc, Seq::new(alloc))?,
     })
 }
 

@@ -28,7 +28,7 @@ pub use resolved_namespace::ResolvedNamespace;
 pub use resolved_schema::ResolvedSchema;
 pub use resolved_type::{ResolvedAttributes, ResolvedType};
 pub use schema::{
-    Schema, action_ancestors, actions, ancestor_types, attrs_of, context_of, entity_types,
-    environments, is_action_type, no_attributes, tags_of,
+    Schema, action_ancestors, actions, ancestor_types, attrs_of, choices_of, context_of,
+    entity_types, environments, is_action_type, kind_of, no_attributes, tags_of,
 };
-pub use ty::{Attributes, Presence, Ty};
+pub use ty::{Attributes, Choices, EntityKind, Presence, Ty};

@@ -1,5 +1,6 @@
 //! Entity types whose names are looked up.
 use crate::resolved_type::ResolvedType;
+use crate::ty::Choices;
 use sc_lists::{Seq, Text};
 use sc_names::Name;
 
@@ -16,4 +17,6 @@ pub struct ResolvedEntityType {
     pub shape: Option<ResolvedType>,
     /// The type of each tag's value, where entities of the type have tags.
     pub tags: Option<ResolvedType>,
+    /// The ids that its entities may have, if the type is enumerated.
+    pub choices: Choices,
 }

@@ -3,15 +3,15 @@ ghost use Rattle.std.specs.Prelude.{◌≡◌, [], IfOk, IfSome, option_map};
 ghost use Rattle.std.specs.List.Sorted.{IsStrictlySortedBy};
 ghost use Rattle.std.specs.Option.{option_copied};
 ghost use Rattle.sc_names.specs.Uids.{uid_cmp};
-ghost use Rattle.sc_schema.specs.Declarations.{environments, env_cmp, entity_types, action_uids, attrs_of, tags_of, ancestor_types, action_ancestors, context_of, entity_type, action, is_action_type};
+ghost use Rattle.sc_schema.specs.Declarations.{environments, env_cmp, entity_types, action_uids, attrs_of, tags_of, choices_of, declared_choices, kind_of, ancestor_types, action_ancestors, context_of, entity_type, action, is_action_type};
 ghost use Rattle.sc_schema.specs.Indices.{types_above_actions};
 ghost use Rattle.sc_schema.specs.Lawful.{IsLawful, IsLawfulType, IsLawfulAction, AreAscending};
 
 use crate::declarations::{Action, EntityType, Env};
 use crate::index::{Index, index_of};
 use crate::place::{place_of_name, place_of_uid};
-use crate::ty::{Attributes, Ty};
-use sc_lists::Seq;
+use crate::ty::{Attributes, Choices, EntityKind, Ty};
+use sc_lists::{Seq, Text};
 use sc_names::{Name, Uid};
 use std::alloc::{AllocError, Global};
 use std::marker::Model;
@@ -166,6 +166,28 @@ pub fn tags_of<'s>(s: &'s Schema, t: &Name) -> Option<&'s Ty>
     }
 }
 
+/// The ids that entities of a type may have, in the order in which they are declared. None exactly where the name isn't
+/// that of a declared type that is enumerated.
+pub fn choices_of<'s>(s: &'s Schema, t: &Name) -> Option<&'s [Text]>
+    ensures { option_map (λ ids. ids.now) result ≡ declared_choices s.now t.now }
+{
+    let ids = choices_among(s, t).get().as_slice();
+    if ids.is_empty() {
+        return None;
+    }
+    Some(ids)
+}
+
+/// A type of entities with the choices that it has in a schema.
+pub fn kind_of(alloc: Global, s: &Schema, t: &Name) -> Result<EntityKind, AllocError>
+    ensures { IfOk result (λ kind. kind ≡ kind_of s.now t.now) }
+{
+    Ok(EntityKind {
+        name: t.try_clone(alloc)?,
+        choices: choices_among(s, t).try_clone()?,
+    })
+}
+
 /// The actions that an action is in, ascending, each once. None exactly where the action isn't declared.
 pub fn action_ancestors<'s>(s: &'s Schema, a: &Uid) -> Option<&'s [Uid]>
     ensures value { option_map (λ us. us.now) result ≡ action_ancestors s.now a.now }
@@ -195,6 +217,16 @@ fn type_among<'s>(s: &'s Schema, name: &Name) -> Option<&'s EntityType>
         return None;
     };
     s.types.get(at)
+}
+
+/// The ids that entities of a type may have, if it is enumerated.
+fn choices_among<'s>(s: &'s Schema, name: &Name) -> &'s Choices
+    ensures { result.now ≡ choices_of s.now name.now }
+{
+    match type_among(s, name) {
+        Some(declared) => &declared.choices,
+        None => &s.index.no_choices,
+    }
 }
 
 fn action_among<'s>(s: &'s Schema, uid: &Uid) -> Option<&'s Action>

@@ -2,7 +2,7 @@
 ghost use Rattle.std.specs.Prelude.{◌≡◌, IfOk};
 
 use crate::fields::Fields;
-use sc_lists::Shared;
+use sc_lists::{Seq, Shared, Text};
 use sc_names::Name;
 use std::alloc::{AllocError, Global};
 
@@ -18,6 +18,31 @@ pub enum Presence {
 /// The fields of a record type: their names, ascending by bytes, each once, with their types. Copies
 /// of a type share them.
 pub type Attributes = Fields<Presence, Ty>;
+
+/// The ids that entities of an enumerated type may have, in the order in which they are declared; none of a type that
+/// isn't enumerated, whose entities may have any id. Copies share them.
+pub type Choices = Shared<Seq<Text>>;
+
+/// A type of entities, as the types of values name it.
+#[derive(Drop)]
+pub struct EntityKind {
+    /// The type's name.
+    pub name: Name,
+    /// The ids that its entities may have, if it is enumerated.
+    pub choices: Choices,
+}
+
+impl EntityKind {
+    /// A copy, which equals the type of entities and shares its choices.
+    pub fn try_clone(&self, alloc: Global) -> Result<EntityKind, AllocError>
+        ensures { IfOk result (λ copy. copy ≡ self.now) }
+    {
+        Ok(EntityKind {
+            name: self.name.try_clone(alloc)?,
+            choices: self.choices.try_clone()?,
+        })
+    }
+}
 
 /// A type of values.
 #[derive(Drop)]
@@ -36,8 +61,8 @@ pub enum Ty {
     Decimal,
     /// Addresses of the internet protocol.
     Ip,
-    /// Entities of the named type.
-    Entity(Name),
+    /// Entities of a type.
+    Entity(EntityKind),
     /// Sets with members of a type.
     Set(Shared<Ty>),
     /// Records with these fields and no others.
@@ -58,7 +83,7 @@ impl Ty {
             Ty::String => Ok(Ty::String),
             Ty::Decimal => Ok(Ty::Decimal),
             Ty::Ip => Ok(Ty::Ip),
-            Ty::Entity(name) => Ok(Ty::Entity(name.try_clone(alloc)?)),
+            Ty::Entity(kind) => Ok(Ty::Entity(kind.try_clone(alloc)?)),
             Ty::Set(member) => Ok(Ty::Set(member.try_clone()?)),
             Ty::Record(fields) => Ok(Ty::Record(fields.try_clone()?)),
         }

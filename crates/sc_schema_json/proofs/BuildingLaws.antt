@@ -101,7 +101,7 @@ types_named ds sorted permutation = named_permuted (type_links ds) (type_links s
 
 -- the type that is made of the declaration at a place
 pub type_made : (ds : List ExpandedEntityType) (links : Links (List ℕ)) (at : ℕ) (d : ExpandedEntityType) (ancestors : List (List ℕ)) (t : EntityType) → links ≡ type_links ds → slice_get ds at ≡ Some d
-    → t ≡ record { name = d.name; ancestors = ancestors; shape = d.shape; tags = d.tags } → ((name : List ℕ) (above : List (List ℕ)) → slice_get links at ≡ Some (name, above) → AreAbove text_cmp links name ancestors)
+    → t ≡ record { name = d.name; ancestors = ancestors; shape = d.shape; tags = d.tags; choices = d.choices } → ((name : List ℕ) (above : List (List ℕ)) → slice_get links at ≡ Some (name, above) → AreAbove text_cmp links name ancestors)
     → IsEntityTypeOf (type_links ds) d t
 type_made ds links at d ancestors t are there is told =
     let listed : slice_get links at ≡ Some (d.name, d.parents) =
@@ -112,6 +112,7 @@ type_made ds links at d ancestors t are there is told =
       ancestors = subst (λ (names : List (List ℕ)). AreAbove text_cmp (type_links ds) d.name names) (sym (ap (λ (u : EntityType). u.ancestors) is)) above;
       shape = ap (λ (u : EntityType). u.shape) is;
       tags = ap (λ (u : EntityType). u.tags) is;
+      choices = ap (λ (u : EntityType). u.choices) is;
     }
 
 type_permuted : (ds sorted : List ExpandedEntityType) → IsPermutation ds sorted → (d : ExpandedEntityType) (t : EntityType) → IsEntityTypeOf (type_links sorted) d t → IsEntityTypeOf (type_links ds) d t
@@ -121,6 +122,7 @@ type_permuted ds sorted permutation d t of =
       ancestors = are_above_permuted text_cmp (type_links ds) (type_links sorted) d.name t.ancestors (IsPermutation-map (λ (e : ExpandedEntityType). (e.name, e.parents)) ds sorted permutation) of.ancestors;
       shape = of.shape;
       tags = of.tags;
+      choices = of.choices;
     }
 
 pub types_built : (ds sorted : List ExpandedEntityType) (types : List EntityType) → IsPermutation ds sorted → IsStrictlySortedBy text_cmp (map (λ (d : ExpandedEntityType). d.name) sorted)

@@ -14,6 +14,7 @@ pub mod AscendingLaws
 pub mod DescribingLaws
 pub mod EitherLaws
 pub mod SpelledGraphLaws
+pub mod KeyedLaws
 pub mod LeadingLaws
 pub mod SpelledLinksLaws
 pub mod MadeLaws

@@ -8,7 +8,10 @@ use Rattle.sc_lists.proofs.ListLaws.{all_element, all_of_elements, contains_from
 use Rattle.sc_graphs.specs.Reaching.{step, on}
 use Rattle.sc_schema_json.specs.Above.{Links, IsParent, IsAbove, AreAbove, NamesKeys}
 
--- ---- elements of lists
+-- what stands above a key stands directly above it, or above one that does
+pub first_parent : {K : Type 0} {links : Links K} {a b : K} → IsAbove links a b → (c : K) × IsParent links a c
+first_parent (step a b p) = (b, p)
+first_parent (on a b c p r) = (b, p)
 
 -- ---- the same links, the same above
 

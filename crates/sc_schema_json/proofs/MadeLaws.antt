@@ -9,10 +9,9 @@ use Rattle.std.specs.Str.{bytes_eq}
 use Rattle.std.specs.declared.cmp.Ordering.{Ordering}
 use Rattle.std.specs.declared.cmp.Ordering.TheVariants.{Equal}
 use Rattle.std.proofs.lemmas.Cmp.{nat_list_cmp_total}
-use Rattle.std.proofs.lemmas.Map.Keys.{IsDistinct-head, IsDistinct-tail}
 use Rattle.std.proofs.lemmas.Map.Text.{is_eq-slice_cmp}
 use Rattle.std.proofs.lemmas.Slice.Eq.{bytes_eq-Decides}
-use Rattle.sc_lists.proofs.ListLaws.{all_element, contains_nothing, contains_split, contains_map, map_itself, contains_from_map}
+use Rattle.sc_lists.proofs.ListLaws.{contains_map, map_itself, contains_from_map}
 use Rattle.sc_lists.proofs.TextLaws.{bytes_eq_true}
 use Rattle.sc_names.specs.Uids.{text_cmp, uid_cmp}
 use Rattle.sc_names.proofs.UidLaws.{uid_cmp_total, uid_cmp_level}
@@ -28,6 +27,7 @@ use Rattle.sc_schema.specs.declared.expanded.ExpandedSchema.{ExpandedSchema}
 use Rattle.sc_schema_json.specs.Above.{Links, AreAbove, NoCycle, IsLeastCycle}
 use Rattle.sc_schema_json.specs.Schemas.{AreInOrder, IsEntityTypeOf, IsActionOf, AreTypesOf, AreActionsOf, IsSchemaOf, type_links, action_links}
 use Rattle.sc_schema_json.proofs.AscendingLaws.{Ascends, ascending_of}
+use Rattle.sc_schema_json.proofs.KeyedLaws.{one_keyed}
 use Rattle.sc_schema_json.proofs.SpelledLinksLaws.{are_above, cycle_or_none}
 
 pub text_level : (a b : List ℕ) → text_cmp a b ≡ Equal → a ≡ b
@@ -38,29 +38,13 @@ text_level a b is = bytes_eq_true a b (sym (is_eq-slice_cmp a b) ∙ ap is_eq is
 module _ {D T K : Type 0} {R : K → K → Ordering} (o : IsTotalOrder R) (level : (x y : K) → R x y ≡ Equal → x ≡ y)
     (eq : K → K → Bool) (decides : (a b : K) → Decides (eq a b) (a ≡ b)) (key : D → K) (key_of : T → K) (make : D → T)
     (keeps : (d : D) → key_of (make d) ≡ key d) where
-  one_keyed : (ds : List D) → IsDistinct eq (map key ds) → (d e : D) → Contains ds d → Contains ds e → key d ≡ key e → d ≡ e
-  one_keyed [] distinct d e has had same = absurd (contains_nothing d has)
-  one_keyed (x ∷ xs) distinct d e has had same = at (contains_split x xs d has) (contains_split x xs e had) (λ p q. one_keyed xs (IsDistinct-tail eq (key x) (map key xs) distinct) d e p q same) where
-    apart : (z : D) → Contains xs z → key x ≡ key z → ⊥
-    apart z there is =
-        let other : eq (key x) (key z) ≡ false = all_element (λ k. eq (key x) k ≡ false) (map key xs) (key z) (IsDistinct-head eq (key x) (map key xs) distinct) (contains_map key xs z there) in
-        let alike : eq (key x) (key z) ≡ true = (decides (key x) (key z)).1 is in
-        let no : true ≡ false = sym alike ∙ other in
-        cc
-
-    at : (x ≡ d) ⊎ Contains xs d → (x ≡ e) ⊎ Contains xs e → (Contains xs d → Contains xs e → d ≡ e) → d ≡ e
-    at (inl p) (inl q) rest = sym p ∙ q
-    at (inl p) (inr q) rest = absurd (apart e q (ap key p ∙ same))
-    at (inr p) (inl q) rest = absurd (apart d p (ap key q ∙ sym same))
-    at (inr p) (inr q) rest = rest p q
-
   made_tie : (ds : List D) → IsDistinct eq (map key ds) → (x y : T) → Contains (map make ds) x → Contains (map make ds) y → R (key_of x) (key_of y) ≡ Equal → x ≡ y
   made_tie ds distinct x y has had tied = from (contains_from_map make ds x has) (contains_from_map make ds y had) where
     from : (d : D) × Contains ds d × (make d ≡ x) → (e : D) × Contains ds e × (make e ≡ y) → x ≡ y
     from p q =
         let first : key p.0 ≡ key_of x = sym (keeps p.0) ∙ ap key_of p.2 in
         let second : key_of y ≡ key q.0 = sym (ap key_of q.2) ∙ keeps q.0 in
-        let same : p.0 ≡ q.0 = one_keyed ds distinct p.0 q.0 p.1 q.1 (first ∙ level (key_of x) (key_of y) tied ∙ second) in
+        let same : p.0 ≡ q.0 = one_keyed eq decides key ds distinct p.0 q.0 p.1 q.1 (first ∙ level (key_of x) (key_of y) tied ∙ second) in
         sym p.2 ∙ ap make same ∙ q.2
 
   all_made : (ds : List D) → IsDistinct eq (map key ds) → Ascends R key_of (Contains (map make ds))
@@ -77,10 +61,10 @@ types_above : (links : Links (List ℕ)) (name : List ℕ) → (ks : List (List 
 types_above links name = are_above nat_list_cmp_total text_level bytes_eq bytes_eq-Decides links name
 
 abbrev made_type : List ExpandedEntityType → ExpandedEntityType → EntityType
-made_type ds d = record { name = d.name; ancestors = (types_above (type_links ds) d.name).0; shape = d.shape; tags = d.tags }
+made_type ds d = record { name = d.name; ancestors = (types_above (type_links ds) d.name).0; shape = d.shape; tags = d.tags; choices = d.choices }
 
 is_made_type : (ds : List ExpandedEntityType) (d : ExpandedEntityType) → IsEntityTypeOf (type_links ds) d (made_type ds d)
-is_made_type ds d = record { name = refl; ancestors = (types_above (type_links ds) d.name).1; shape = refl; tags = refl }
+is_made_type ds d = record { name = refl; ancestors = (types_above (type_links ds) d.name).1; shape = refl; tags = refl; choices = refl }
 
 made_types : (ds : List ExpandedEntityType) → IsDistinct bytes_eq (map (λ (d : ExpandedEntityType). d.name) ds) → (types : List EntityType) × AreTypesOf ds types
 made_types ds distinct =

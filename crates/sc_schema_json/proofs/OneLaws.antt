@@ -77,7 +77,8 @@ one_type links d s t a b =
     let above : s.ancestors ≡ t.ancestors = one_above nat_list_cmp_total links d.name s.ancestors t.ancestors a.ancestors b.ancestors in
     let shapes : s.shape ≡ t.shape = a.shape ∙ sym b.shape in
     let tags : s.tags ≡ t.tags = a.tags ∙ sym b.tags in
-    λ i. record { name = names i; ancestors = above i; shape = shapes i; tags = tags i }
+    let choices : s.choices ≡ t.choices = a.choices ∙ sym b.choices in
+    λ i. record { name = names i; ancestors = above i; shape = shapes i; tags = tags i; choices = choices i }
 
 one_action : (links : Links _) (d : ExpandedAction) (s t : Action) → IsActionOf links d s → IsActionOf links d t → s ≡ t
 one_action links d s t a b =

@@ -15,20 +15,22 @@ use Rattle.sc_lists.proofs.ListLaws.{contains_nothing, contains_split, contains_
 use Rattle.sc_names.specs.declared.uid.Uid.{Uid}
 use Rattle.sc_names.specs.Uids.{text_cmp, uid_cmp}
 use Rattle.sc_names.proofs.UidLaws.{uid_cmp_total}
-use Rattle.sc_schema.specs.Declarations.{Declarations, uid_eq, entity_type, action, is_action_type, ancestor_types, action_ancestors}
-use Rattle.sc_schema.specs.Lawful.{AreEntityTypes, IsEntityType, IsTypeWithin, IsActionWithin, IsLawfulType, IsLawfulAction, IsLawful, IsRecordTypeOf, IsTypeOf}
+use Rattle.sc_schema.specs.Declarations.{Declarations, uid_eq, entity_type, choices_of, action, is_action_type, ancestor_types, action_ancestors}
+use Rattle.sc_schema.specs.Lawful.{AreEntityTypes, IsEntityType, IsEntityKind, AreChoices, IsTypeWithin, IsActionWithin, IsLawfulType, IsLawfulAction, IsLawful, IsRecordTypeOf, IsTypeOf}
 use Rattle.sc_schema.specs.Sizes.{IsSmall}
 use Rattle.sc_schema.specs.declared.declarations.Action.{Action}
 use Rattle.sc_schema.specs.declared.declarations.EntityType.{EntityType}
+use Rattle.sc_schema.specs.declared.ty.EntityKind.{EntityKind}
 use Rattle.sc_schema.specs.declared.ty.Ty.{Ty}
 use Rattle.sc_schema.proofs.PlaceLaws.{find_place, uid_eq-Decides}
-use Rattle.sc_schema.specs.Expanded.{IsExpanded, IsExpandedEntityType, IsExpandedAction, expanded_names, expanded_uids}
+use Rattle.sc_schema.specs.Expanded.{IsExpanded, IsExpandedEntityType, IsExpandedAction, expanded_names, expanded_kinds, expanded_uids}
 use Rattle.sc_schema.specs.declared.expanded.ExpandedAction.{ExpandedAction}
 use Rattle.sc_schema.specs.declared.expanded.ExpandedEntityType.{ExpandedEntityType}
 use Rattle.sc_schema.specs.declared.expanded.ExpandedSchema.{ExpandedSchema}
 use Rattle.sc_schema_json.specs.Above.{IsAbove, AreAbove, NamesKeys, NoCycle}
 use Rattle.sc_schema_json.specs.Schemas.{type_links, action_links, AreInOrder, IsEntityTypeOf, IsActionOf, IsSchemaOf}
-use Rattle.sc_schema_json.proofs.LinksLaws.{above_above, above_key, keys_of_links, links_named}
+use Rattle.sc_schema_json.proofs.LinksLaws.{first_parent, above_above, above_key, keys_of_links, links_named}
+use Rattle.sc_schema_json.proofs.KeyedLaws.{one_keyed}
 use Rattle.sc_schema_json.proofs.TypeLaws.{record_type_of, tags_of}
 
 -- ---- look-ups
@@ -53,6 +55,10 @@ none_passes test (x ∷ xs) h = rw (h x (contains_first x xs)) (none_passes test
 
 is_found : {X : Type 0} (o : Option X) (x : X) → o ≡ Some x → IsSome o
 is_found o x is = subst IsSome (sym is) refl
+
+no_elements : {X : Type 0} (xs : List X) → ((x : X) → Contains xs x → ⊥) → xs ≡ []
+no_elements [] h = refl
+no_elements (x ∷ xs) h = absurd (h x (contains_first x xs))
 
 -- ---- what is named has links
 
@@ -102,6 +108,18 @@ module _ (x : ExpandedSchema) (s : Declarations) (e : IsExpanded x) (made : IsSc
   type_known : (name : List ℕ) → Contains (expanded_names x) name → IsEntityType s name
   type_known name has = let at = type_at name has in is_found (entity_type s name) at.type at.there
 
+  -- a declared entity type has the choices that it is declared with
+  choices_at : (d : ExpandedEntityType) → Contains x.entity_types d → d.choices ≡ choices_of s d.name
+  choices_at d has =
+      let t = made.types.all d has in
+      let there = found nat_list_cmp_total bytes_eq bytes_eq-Decides (λ (y : EntityType). y.name) s.types t.0 d.name made.types.ascending t.1 t.2.name in
+      sym (ap (λ (o : Option EntityType). unwrap_or (option_map (λ (y : EntityType). y.choices) o) []) there ∙ t.2.choices)
+
+  kind_known : (kind : EntityKind) → Contains (expanded_kinds x) kind → IsEntityKind s kind
+  kind_known kind has =
+      let d = contains_from_map (λ (y : ExpandedEntityType). record { name = y.name; choices = y.choices }) x.entity_types kind has in
+      subst (IsEntityKind s) d.2 (type_known d.0.name (contains_map (λ (y : ExpandedEntityType). y.name) x.entity_types d.0 d.1), choices_at d.0 d.1)
+
   types_known : (names all : List (List ℕ)) → AllByRecursion (Contains (expanded_names x)) names → AreInOrder names all → AreEntityTypes s all
   types_known names all known ordered =
       record { ascending = ordered.ascending; declared = all_of_elements (IsEntityType s) all (λ name has. type_known name (all_element (Contains (expanded_names x)) names name known ((ordered.members name).0 has))) }
@@ -125,6 +143,16 @@ module _ (x : ExpandedSchema) (s : Declarations) (e : IsExpanded x) (made : IsSc
 
   -- ---- entity types
 
+  -- above a type without parents there is none
+  nothing_above : (d : ExpandedEntityType) → Contains x.entity_types d → d.parents ≡ [] → (b : List ℕ) → IsAbove (type_links x.entity_types) d.name b → ⊥
+  nothing_above d has none b above =
+      let first = first_parent above in
+      let listed = contains_from_map (λ (y : ExpandedEntityType). (y.name, y.parents)) x.entity_types (d.name, first.1.above) first.1.listed in
+      let same : listed.0 ≡ d =
+      one_keyed bytes_eq bytes_eq-Decides (λ (y : ExpandedEntityType). y.name) x.entity_types e.types_distinct listed.0 d listed.1 has (ap (λ (p : List ℕ × List (List ℕ)). p.0) listed.2) in
+      let empty : first.1.above ≡ [] = sym (ap (λ (p : List ℕ × List (List ℕ)). p.1) listed.2) ∙ (ap (λ (y : ExpandedEntityType). y.parents) same ∙ none) in
+      contains_nothing first.0 (subst (λ (names : List (List ℕ)). Contains names first.0) empty first.1.parent)
+
   type_closed : (a : List ℕ) (names : List (List ℕ)) → AreAbove text_cmp (type_links x.entity_types) a names → (b : List ℕ) → Contains names b → IsTypeWithin s names b
   type_closed a names above b has =
       let up = (above.members b).0 has in
@@ -142,10 +170,16 @@ module _ (x : ExpandedSchema) (s : Declarations) (e : IsExpanded x) (made : IsSc
         no_action = no_action t.name named;
         above = record { ascending = d.2.ancestors.ascending; declared = all_of_elements (IsEntityType s) t.ancestors (λ b has. type_known b (above_name ((d.2.ancestors.members b).0 has))) };
         closed = all_of_elements (IsTypeWithin s t.ancestors) t.ancestors (type_closed d.0.name t.ancestors d.2.ancestors);
-        shape_type = subst (IsRecordTypeOf s) (sym d.2.shape) (record_type_of (Contains (expanded_names x)) (IsEntityType s) type_known d.0.shape known.shape_type);
+        shape_type = subst (IsRecordTypeOf s) (sym d.2.shape) (record_type_of (Contains (expanded_kinds x)) (IsEntityKind s) kind_known d.0.shape known.shape_type);
         shape_size = subst IsSmall (sym d.2.shape) known.shape_size;
-        tag_type = subst (λ (o : Option Ty). IfSome o (IsTypeOf s)) (sym d.2.tags) (tags_of (Contains (expanded_names x)) (IsEntityType s) type_known d.0.tags known.tag_type);
+        tag_type = subst (λ (o : Option Ty). IfSome o (IsTypeOf s)) (sym d.2.tags) (tags_of (Contains (expanded_kinds x)) (IsEntityKind s) kind_known d.0.tags known.tag_type);
         tag_size = subst (λ (o : Option Ty). IfSome o IsSmall) (sym d.2.tags) known.tag_size;
+        ids = subst AreChoices (sym d.2.choices) known.ids;
+        bare = λ some. (let bare = known.bare (λ none. some (d.2.choices ∙ none)) in record {
+          attributes = d.2.shape ∙ bare.attributes;
+          tagless = d.2.tags ∙ bare.tagless;
+          apart = no_elements t.ancestors (λ b has. nothing_above d.0 d.1 bare.apart b ((d.2.ancestors.members b).0 has));
+        });
       }
 
   -- ---- actions
@@ -173,7 +207,7 @@ module _ (x : ExpandedSchema) (s : Declarations) (e : IsExpanded x) (made : IsSc
         acyclic = λ has. acyclic d.0.uid ((d.2.ancestors.members d.0.uid).0 (subst (λ (u : Uid). Contains a.ancestors u) d.2.uid has));
         principal_types = types_known d.0.principals a.principals known.principal_types d.2.principals;
         resource_types = types_known d.0.resources a.resources known.resource_types d.2.resources;
-        context_type = subst (IsRecordTypeOf s) (sym d.2.context) (record_type_of (Contains (expanded_names x)) (IsEntityType s) type_known d.0.context known.context_type);
+        context_type = subst (IsRecordTypeOf s) (sym d.2.context) (record_type_of (Contains (expanded_kinds x)) (IsEntityKind s) kind_known d.0.context known.context_type);
         context_size = subst IsSmall (sym d.2.context) known.context_size;
       }
 

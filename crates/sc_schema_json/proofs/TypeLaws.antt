@@ -1,11 +1,12 @@
 -- A type over some entity types is one over more of them.
-use Rattle.std.proofs.Common.{ℕ, List, Option, Some, None, IfSome}
+use Rattle.std.proofs.Common.{Option, Some, None, IfSome}
+use Rattle.sc_schema.specs.declared.ty.EntityKind.{EntityKind}
 use Rattle.sc_schema.specs.declared.ty.Ty.{Ty, Ty-F}
 use Rattle.sc_schema.specs.declared.ty.Ty.TheOpen as t
 use Rattle.sc_schema.specs.Lawful.{IsLevelOver, IsTypeOver, IsRecordTypeOver}
 use Rattle.sc_schema.proofs.EveryTypeLaws.{every_weaker}
 
-module _ (known also : List ℕ → Type 0) (more : (name : List ℕ) → known name → also name) where
+module _ (known also : EntityKind → Type 0) (more : (kind : EntityKind) → known kind → also kind) where
   level_of : (x : Ty-F Ty) → IsLevelOver known x → IsLevelOver also x
   level_of t.True h = h
   level_of t.False h = h
@@ -14,7 +15,7 @@ module _ (known also : List ℕ → Type 0) (more : (name : List ℕ) → known 
   level_of t.String h = h
   level_of t.Decimal h = h
   level_of t.Ip h = h
-  level_of (t.Entity name) h = more name h
+  level_of (t.Entity kind) h = more kind h
   level_of (t.Set member) h = h
   level_of (t.Record fields) h = h
 

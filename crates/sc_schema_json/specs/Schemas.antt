@@ -37,6 +37,7 @@ pub record IsEntityTypeOf (links : Links (List ℕ)) (d : ExpandedEntityType) (t
   pub ancestors : AreAbove text_cmp links d.name t.ancestors
   pub shape : t.shape ≡ d.shape
   pub tags : t.tags ≡ d.tags
+  pub choices : t.choices ≡ d.choices
 
 -- a declaration of an action, with all actions that it is in
 pub record IsActionOf (links : Links Uid) (d : ExpandedAction) (a : Action) : Type 0 where

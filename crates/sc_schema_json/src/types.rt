@@ -124,6 +124,7 @@ fn with_ancestors(declared: ExpandedEntityType, ancestors: Seq<Name>) -> EntityT
       ancestors = ancestors;
       shape = declared.shape;
       tags = declared.tags;
+      choices = declared.choices;
     } }
 {
     EntityType {
@@ -131,5 +132,6 @@ fn with_ancestors(declared: ExpandedEntityType, ancestors: Seq<Name>) -> EntityT
         ancestors,
         shape: declared.shape,
         tags: declared.tags,
+        choices: declared.choices,
     }
 }

@@ -65,6 +65,19 @@ const FORMS: &[(&str, &str)] = &[
         r#"{"":{"commonTypes":{"T":{"type":"Extension","name":"datetime"}}}}"#,
         "bad shape at //commonTypes/T/name",
     ),
+    // choices are texts, each once, and stand alone
+    (
+        r#"{"":{"entityTypes":{"U":{"enum":[]}}}}"#,
+        "bad shape at //entityTypes/U/enum",
+    ),
+    (
+        r#"{"":{"entityTypes":{"U":{"enum":["a","b","a"]}}}}"#,
+        "bad shape at //entityTypes/U/enum/2",
+    ),
+    (
+        r#"{"":{"entityTypes":{"U":{"tags":{"type":"String"},"enum":["a"]}}}}"#,
+        "bad shape at //entityTypes/U/tags",
+    ),
     // a missing member at its object, and before the members that are there
     (
         r#"{"":{"commonTypes":{"T":{"type":"Set","x":1}}}}"#,

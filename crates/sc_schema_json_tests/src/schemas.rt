@@ -1,10 +1,11 @@
 //! What schema files spell: each schema is told in lines, entity types first, then actions, then
 //! environments.
 use crate::faults::is_text;
+use sc_lists::Text;
 use sc_names::{Name, Uid, put_uid};
 use sc_schema::{
-    Attributes, Env, Presence, Schema, Ty, action_ancestors, actions, ancestor_types, attrs_of,
-    context_of, entity_types, environments, tags_of,
+    Attributes, EntityKind, Env, Presence, Schema, Ty, action_ancestors, actions, ancestor_types,
+    attrs_of, choices_of, context_of, entity_types, environments, tags_of,
 };
 use sc_schema_json::{read_schema, spelling_laws};
 use std::alloc::{AllocError, Global};
@@ -20,13 +21,27 @@ fn put_type(told: &mut String, ty: &Ty) -> Result<(), AllocError> {
         Ty::String => told.push_str("String"),
         Ty::Decimal => told.push_str("Decimal"),
         Ty::Ip => told.push_str("Ip"),
-        Ty::Entity(name) => told.push_str(name.as_str()),
+        Ty::Entity(kind) => put_kind(told, kind),
         Ty::Set(member) => {
             told.push_str("set of ")?;
             put_type(told, member.get())
         }
         Ty::Record(fields) => put_fields(told, fields),
     }
+}
+
+/// Writes a type of entities, with its choices if it is enumerated.
+fn put_kind(told: &mut String, kind: &EntityKind) -> Result<(), AllocError> {
+    told.push_str(kind.name.as_str())?;
+    put_choices(told, kind.choices.as_slice())
+}
+
+fn put_choices(told: &mut String, ids: &[Text]) -> Result<(), AllocError> {
+    for id in ids {
+        told.push_str("|")?;
+        told.push_str(id.as_str())?;
+    }
+    Ok(())
 }
 
 /// Writes the fields of a record, with a `?` behind the name of one that may be absent.
@@ -76,6 +91,10 @@ fn put_entity_type(told: &mut String, schema: &Schema, name: &Name) -> Result<()
     put_names(told, ancestor_types(schema, name))?;
     put_part(told, " ", attrs_of(schema, name))?;
     put_part(told, " tags ", tags_of(schema, name))?;
+    if let Some(ids) = choices_of(schema, name) {
+        told.push_str(" ")?;
+        put_choices(told, ids)?;
+    }
     told.push_str("\n")
 }
 
@@ -383,6 +402,33 @@ U Action::"a" annotations
         r#"{"": {"actions": {"a": {"memberOf": [{"id": "a"}], "memberOf": [{"id": "a", "id": "b"}]}, "b": {}}}}"#,
         r#"Action::"a" in Action::"b" { }
 Action::"b" { }
+"#,
+    ),
+    // enumerated types, which stand where others do, and whose choices go with each type that names them
+    (
+        r#"{
+            "": {
+                "entityTypes": {
+                    "Role": {"enum": ["reader", "admin"]},
+                    "User": {"memberOfTypes": ["Role"], "shape": {"type": "Record", "attributes": {
+                        "role": {"type": "Entity", "name": "Role"},
+                        "all": {"type": "Set", "element": {"type": "Roles"}},
+                        "other": {"type": "EntityOrCommon", "name": "N::Role"},
+                        "self": {"type": "Entity", "name": "User"}
+                    }}, "tags": {"type": "Roles"}}
+                },
+                "commonTypes": {"Roles": {"type": "EntityOrCommon", "name": "Role"}},
+                "actions": {"a": {"appliesTo": {"principalTypes": ["Role"], "resourceTypes": ["User", "N::Role"],
+                    "context": {"type": "Record", "attributes": {"role": {"type": "Roles"}}}}}}
+            },
+            "N": {"entityTypes": {"Role": {"annotations": {}, "enum": ["", "admin", "a|b"]}}}
+        }"#,
+        r#"N::Role { } ||admin|a|b
+Role { } |reader|admin
+User in Role { all: set of Role|reader|admin; other: N::Role||admin|a|b; role: Role|reader|admin; self: User; } tags Role|reader|admin
+Action::"a" { role: Role|reader|admin; }
+Role Action::"a" N::Role
+Role Action::"a" User
 "#,
     ),
     // white space, escapes and members in any order

@@ -1,6 +1,6 @@
 -- What a well-written schema resolves to names what it declares, and each of its declarations has a name of its own.
-use Rattle.std.proofs.Common.{◌≡◌, ℕ, List, [], ◌∷◌, ◌++◌, map, length, Bool, true, false, ◌==◌, Option, None, IfSome, codes, refl, sym, subst}
-use Rattle.std.specs.Prelude.{if◌then◌else◌}
+use Rattle.std.proofs.Common.{◌≡◌, ℕ, List, [], ◌∷◌, ◌++◌, map, length, Bool, true, false, ◌==◌, Option, None, IfSome, codes, refl, sym, ap, subst}
+use Rattle.std.specs.Prelude.{option_map, if◌then◌else◌}
 use Rattle.std.specs.Option.{option_or}
 use Rattle.std.specs.List.{AllByRecursion, flat_map, list_any, IsDistinct}
 use Rattle.std.specs.Str.{IsUtf8, bytes_eq}
@@ -22,7 +22,7 @@ use Rattle.sc_schema.specs.declared.resolved_namespace.ResolvedNamespace.{Resolv
 use Rattle.sc_schema.specs.declared.resolved_schema.ResolvedSchema.{ResolvedSchema}
 use Rattle.sc_schema.specs.Resolved.{entity_names, IsResolvedType, IsResolvedEntityType, IsResolvedAction, IsResolved}
 use Rattle.sc_schema_names.specs.Names.{Known, known_in, full, action_type, actions}
-use Rattle.sc_schema_names.specs.Resolution.{resolved_action, resolved_common_type, resolved_entity_type, resolved_namespace, resolved}
+use Rattle.sc_schema_names.specs.Resolution.{entity_type_of, resolved_type, resolved_action, resolved_common_type, resolved_entity_type, resolved_namespace, resolved}
 use Rattle.sc_schema_names.specs.Unknown.{inside, first_member, first_item, parent_fault, entity_types_fault, any_type_fault, applies_to_fault, action_fault, common_type_fault, declared_entity_type_fault, first_unknown}
 use Rattle.sc_schema_names.specs.Resolves.{Resolves}
 use Rattle.sc_schema_names.proofs.DistinctLaws.{all-map, all-flat_map}
@@ -72,6 +72,12 @@ module _ (w : WrittenSchema) (s : ResolvedSchema) (same : SameNames w s) where
         above = entities_declared w s same n 0 t.parents (no_fault_under (codes "memberOfTypes") (entity_types_fault known n t.parents) first.0);
         shape_type = fine_any_type w s same n t.shape h.shape_type (no_fault_under (codes "shape") (any_type_fault known n t.shape) rest.0);
         tag_type = fine_any_type w s same n t.tags h.tag_type (no_fault_under (codes "tags") (any_type_fault known n t.tags) rest.1);
+        ids = record { texts = h.ids.texts; distinct = h.ids.distinct; few = h.ids.few };
+        bare = λ some. (let bare = h.bare some in record {
+          attributes = ap (option_map (resolved_type known n)) bare.attributes;
+          tagless = ap (option_map (resolved_type known n)) bare.tagless;
+          apart = ap (map (entity_type_of known n)) bare.apart;
+        });
       }
 
   fine_entity_types : (n : List ℕ) → IsUtf8 n → (ts : List WrittenEntityType) → AllByRecursion IsUtf8 (map (λ (t : WrittenEntityType). t.name) ts) → AllByRecursion IsWrittenEntityType ts

@@ -122,6 +122,7 @@ resolved_entity_type known namespace e =
       parents = map (entity_type_of known namespace) e.parents;
       shape = option_map (resolved_type known namespace) e.shape;
       tags = option_map (resolved_type known namespace) e.tags;
+      choices = e.choices;
     }
 
 abbrev pub resolved_namespace : Known → WrittenNamespace → ResolvedNamespace

@@ -133,6 +133,7 @@ impl FromWritten<WrittenEntityType> for ResolvedEntityType {
             name: full_name(alloc, namespace, written.name.as_str())?,
             shape: any_type(alloc, declared, namespace, &written.shape)?,
             tags: any_type(alloc, declared, namespace, &written.tags)?,
+            choices: written.choices.try_clone()?,
         })
     }
 }

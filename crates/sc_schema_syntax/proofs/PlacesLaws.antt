@@ -1,5 +1,5 @@
 -- The fault that the walk tells first is the first of the faults that there are.
-use Rattle.std.proofs.Common.{◌≡◌, ◌⊎◌, ℕ, ◌+◌, ◌<◌, ◌≤◌, List, [], ◌∷◌, Bool, true, false, Option, Some, None, inl, inr, refl, sym, ap, subst, ◌∙◌, arith}
+use Rattle.std.proofs.Common.{◌≡◌, ◌⊎◌, ℕ, ◌+◌, ◌<◌, ◌≤◌, List, [], ◌∷◌, length, Bool, true, false, Option, Some, None, inl, inr, refl, sym, ap, subst, ◌∙◌, arith}
 use Rattle.std.specs.Fmt.{decimal}
 use Rattle.std.specs.List.{AllByRecursion}
 use Rattle.std.specs.List.Sorted.{IsStrictlySortedBy}
@@ -28,7 +28,7 @@ use Rattle.sc_schema_syntax.specs.declared.level.Level.{Level}
 use Rattle.sc_schema_syntax.specs.declared.level.Level.TheVariants.{Schema}
 use Rattle.sc_schema_syntax.specs.declared.written_schema.WrittenSchema.{WrittenSchema}
 use Rattle.sc_schema_syntax.specs.Pointers.{under}
-use Rattle.sc_schema_syntax.specs.Forms.{item_form, level_of, is_name, is_whole, member_form}
+use Rattle.sc_schema_syntax.specs.Forms.{item_form, elements, form_at, level_of, is_name, is_whole, member_form}
 use Rattle.sc_schema_syntax.specs.Faults.{shape_fault, name_fault, value_fault, items_fault, members_fault, member_fault, first_fault}
 use Rattle.sc_schema_syntax.specs.Places.{Kind, bad_name, bad_shape, told, is_shaped, FaultAt, misshapen, in_item, in_member, MemberFaultAt, misnamed, in_value, IsEarlier, IsBefore, name_first, outside, earlier, further, IsFirst, SchemaFaultAt, IsFirstOf, of_no_tree, of_tree, ArePlaced}
 use Rattle.sc_schema_syntax.specs.Written.{schema_of}
@@ -188,13 +188,13 @@ alone form d only = judged_as (OwnFault form d) (FaultAt form d) (own_fault form
 -- ---- items
 
 -- the items being counted from n on, one of them has a fault
-record ItemFault (each : Form) (n : ℕ) (items : Items) (k : Kind) (ss : List Step) : Type 0 where
+record ItemFault (each : ℕ → Data → Form) (n : ℕ) (items : Items) (k : Kind) (ss : List Step) : Type 0 where
   place : ℕ
   value : Data
   rest : List Step
   is : ss ≡ to_item place ∷ rest
   has : HasItem n items place value
-  fault : FaultAt each value k rest
+  fault : FaultAt (each place value) value k rest
 
 from_on : {n place : ℕ} {items : Items} {value : Data} → HasItem n items place value → n ≤ place
 from_on (first_item n value others) = omega arith
@@ -203,17 +203,17 @@ from_on (later_item n beside others place value h) = let more : n + 1 ≤ place 
 no_item : {n place : ℕ} {value : Data} → HasItem n no_items place value → ⊥
 no_item h = elim h [ ]
 
-no_item_fault : (each : Form) (n : ℕ) (k : Kind) (ss : List Step) → ItemFault each n no_items k ss → ⊥
+no_item_fault : (each : ℕ → Data → Form) (n : ℕ) (k : Kind) (ss : List Step) → ItemFault each n no_items k ss → ⊥
 no_item_fault each n k ss h = no_item h.has
 
-item_split : (each : Form) (n : ℕ) (value : Data) (items : Items) (k : Kind) (ss rest : List Step) (place : ℕ) (d : Data)
-    → ss ≡ to_item place ∷ rest → HasItem n (item value items) place d → FaultAt each d k rest
-    → Behind (to_item n) (FaultAt each value) k ss ⊎ ItemFault each (n + 1) items k ss
+item_split : (each : ℕ → Data → Form) (n : ℕ) (value : Data) (items : Items) (k : Kind) (ss rest : List Step) (place : ℕ) (d : Data)
+    → ss ≡ to_item place ∷ rest → HasItem n (item value items) place d → FaultAt (each place d) d k rest
+    → Behind (to_item n) (FaultAt (each n value) value) k ss ⊎ ItemFault each (n + 1) items k ss
 item_split each _ _ _ k ss rest _ _ is (first_item n value others) fault = inl (rest, is, fault)
 item_split each _ _ _ k ss rest _ _ is (later_item n beside others place d h) fault = inr (record { place = place; value = d; rest = rest; is = is; has = h; fault = fault })
 
-item_apart : (each : Form) (n : ℕ) (value : Data) (items : Items) (k l : Kind) (ss ts : List Step)
-    → Behind (to_item n) (FaultAt each value) k ss → ItemFault each (n + 1) items l ts → IsBefore l ts k ss → ⊥
+item_apart : (each : ℕ → Data → Form) (n : ℕ) (value : Data) (items : Items) (k l : Kind) (ss ts : List Step)
+    → Behind (to_item n) (FaultAt (each n value) value) k ss → ItemFault each (n + 1) items l ts → IsBefore l ts k ss → ⊥
 unfolding number_in
 item_apart each n value items k l ss ts p q before = by (heads moved) where
   moved : IsBefore l (to_item q.place ∷ q.rest) k (to_item n ∷ p.0)
@@ -223,15 +223,15 @@ item_apart each n value items k l ss ts p q before = by (heads moved) where
   by (inl less) = let low : n + 1 ≤ q.place = from_on q.has in absurd (omega (arith, low, less))
   by (inr same) = let low : n + 1 ≤ q.place = from_on q.has in let is : q.place ≡ n = ap number_in same in absurd (omega (arith, low, is))
 
-item_next : (each : Form) (n : ℕ) (value : Data) (items : Items) (a b : Option SchemaFault) → Judged (FaultAt each value) a → Judged (ItemFault each (n + 1) items) b
+item_next : (each : ℕ → Data → Form) (n : ℕ) (value : Data) (items : Items) (a b : Option SchemaFault) → Judged (FaultAt (each n value) value) a → Judged (ItemFault each (n + 1) items) b
     → Judged (ItemFault each n (item value items)) (option_or (option_map (under (decimal n)) a) b)
 item_next each n value items a b here rest =
-    judged_or (Behind (to_item n) (FaultAt each value)) (ItemFault each (n + 1) items) (ItemFault each n (item value items))
+    judged_or (Behind (to_item n) (FaultAt (each n value) value)) (ItemFault each (n + 1) items) (ItemFault each n (item value items))
     (λ k ss h. item_split each n value items k ss h.rest h.place h.value h.is h.has h.fault)
     (λ k ss h. record { place = n; value = value; rest = h.0; is = h.1; has = first_item n value items; fault = h.2 })
     (λ k ss h. record { place = h.place; value = h.value; rest = h.rest; is = h.is; has = later_item n value items h.place h.value h.has; fault = h.fault })
     (λ k l ss ts p q. item_apart each n value items k l ss ts p q)
-    (option_map (under (decimal n)) a) b (judged_under (to_item n) (FaultAt each value) a here) rest
+    (option_map (under (decimal n)) a) b (judged_under (to_item n) (FaultAt (each n value) value) a here) rest
 
 -- ---- members
 
@@ -328,26 +328,25 @@ one_member level key value judge =
 
 -- ---- lists and objects
 
-list_misshapen : (form : Form) (items : Items) (o : Option Form) → item_form form ≡ o → is_some o ≡ false → is_shaped form (array items) ≡ false
-list_misshapen form items o is none = ap is_some is ∙ none
-
-list_split : (form each : Form) (items : Items) → item_form form ≡ Some each → (k : Kind) (ss : List Step) → FaultAt form (array items) k ss → ItemFault each 0 items k ss
+list_split : (form each : Form) (items : Items) → item_form form (length (elements items)) ≡ Some each → (k : Kind) (ss : List Step) → FaultAt form (array items) k ss
+    → ItemFault (form_at each items) 0 items k ss
 list_split form each items is _ _ (misshapen _ _ h) = absurd (let no : true ≡ false = sym (ap is_some is) ∙ h in cc)
 list_split form each items is _ _ (in_item _ other _ place value kind steps wanted has f) =
-    record { place = place; value = value; rest = steps; is = refl; has = has; fault = subst (λ (g : Form). FaultAt g value kind steps) (same_some (sym wanted ∙ is)) f }
+    record { place = place; value = value; rest = steps; is = refl; has = has; fault = subst (λ (g : Form). FaultAt (form_at g items place value) value kind steps) (same_some (sym wanted ∙ is)) f }
 
-no_list : (form : Form) (items : Items) → item_form form ≡ None → (k : Kind) (ss : List Step) → FaultAt form (array items) k ss → OwnFault form (array items) k ss
+no_list : (form : Form) (items : Items) → item_form form (length (elements items)) ≡ None → (k : Kind) (ss : List Step) → FaultAt form (array items) k ss → OwnFault form (array items) k ss
 no_list form items is _ _ (misshapen _ _ h) = (refl, refl, h)
 no_list form items is _ _ (in_item _ other _ place value kind steps wanted has f) = absurd (let no : None ≡ Some other = sym is ∙ wanted in cc)
 
-whole_list : (form : Form) (items : Items) (o : Option Form) → item_form form ≡ o → ((each : Form) → Judged (ItemFault each 0 items) (items_fault each 0 items))
-    → Judged (FaultAt form (array items)) (option_map_or (λ each. items_fault each 0 items) o (shape_fault false))
+whole_list : (form : Form) (items : Items) (o : Option Form) → item_form form (length (elements items)) ≡ o
+    → ((each : ℕ → Data → Form) → Judged (ItemFault each 0 items) (items_fault each 0 items))
+    → Judged (FaultAt form (array items)) (option_map_or (λ each. items_fault (form_at each items) 0 items) o (shape_fault false))
 whole_list form items None is judge =
     judged_as (OwnFault form (array items)) (FaultAt form (array items)) (own_fault form (array items)) (no_list form items is) (shape_fault false) (own form (array items) false (ap is_some is))
 whole_list form items (Some each) is judge =
-    judged_as (ItemFault each 0 items) (FaultAt form (array items))
+    judged_as (ItemFault (form_at each items) 0 items) (FaultAt form (array items))
     (λ k ss h. subst (λ (us : List Step). FaultAt form (array items) k us) (sym h.is) (in_item form each items h.place h.value k h.rest is h.has h.fault))
-    (list_split form each items is) (items_fault each 0 items) (judge each)
+    (list_split form each items is) (items_fault (form_at each items) 0 items) (judge (form_at each items))
 
 object_split : (form : Form) (level : Level) (members : Members) → level_of form members ≡ Some level → (k : Kind) (ss : List Step) → FaultAt form (object members) k ss
     → OwnFault form (object members) k ss ⊎ MemberFault level members k ss
@@ -389,12 +388,12 @@ mutual
   judged (boolean truth) tidy form = alone form (boolean truth) (only_truth form truth)
   judged (number n) tidy form = alone form (number n) (only_number form n)
   judged (string text) tidy form = alone form (string text) (only_text form text)
-  judged (array items) tidy form = whole_list form items (item_form form) refl (λ each. judged_items items tidy each 0)
+  judged (array items) tidy form = whole_list form items (item_form form (length (elements items))) refl (λ each. judged_items items tidy each 0)
   judged (object members) tidy form = whole_object form members (level_of form members) refl (λ level. judged_members members tidy.0.ascending tidy.1 level)
 
-  judged_items : (items : Items) → AreTidyItems items → (each : Form) (n : ℕ) → Judged (ItemFault each n items) (items_fault each n items)
+  judged_items : (items : Items) → AreTidyItems items → (each : ℕ → Data → Form) (n : ℕ) → Judged (ItemFault each n items) (items_fault each n items)
   judged_items no_items tidy each n = no_item_fault each n
-  judged_items (item value items) tidy each n = item_next each n value items (value_fault each value) (items_fault each (n + 1) items) (judged value tidy.0 each) (judged_items items tidy.1 each (n + 1))
+  judged_items (item value items) tidy each n = item_next each n value items (value_fault (each n value) value) (items_fault each (n + 1) items) (judged value tidy.0 (each n value)) (judged_items items tidy.1 each (n + 1))
 
   judged_members : (members : Members) → IsStrictlySortedBy text_cmp (keys members) → AreTidyMembers members → (level : Level) → Judged (MemberFault level members) (members_fault level members)
   judged_members no_members ascends tidy level = λ k ss h. no_member h.has
@@ -511,7 +510,9 @@ mutual
   compared tidy (in_item form each items place value kind steps wanted has f) (in_item _ other _ beside second l ts also had g) =
       behind_steps kind l (to_item place) (to_item beside) steps ts (compare_items place beside)
       (λ e. compared (tidy_item tidy has) f
-      (subst (λ (v : Data). FaultAt each v l ts) (sym (one_item has had (same_number e))) (subst (λ (x : Form). FaultAt x second l ts) (same_some (sym also ∙ wanted)) g)))
+      (subst (λ (v : Data). FaultAt (form_at each items place v) v l ts) (sym (one_item has had (same_number e)))
+      (subst (λ (p : ℕ). FaultAt (form_at each items p second) second l ts) (sym (same_number e))
+      (subst (λ (x : Form). FaultAt (form_at x items beside second) second l ts) (same_some (sym also ∙ wanted)) g))))
   compared tidy (in_member form level ms name value kind steps wanted has f) (in_member _ other _ beside second l ts also had g) =
       behind_steps kind l (to_member name) (to_member beside) steps ts (compare_names name beside)
       (λ e. compared_member (tidy_member tidy.1 has) f

@@ -1,6 +1,6 @@
 -- The first fault of the form of a schema file, in a walk that takes the members of an object in the order of their
 -- bytes and an object before its members.
-use Rattle.std.specs.Prelude.{ℕ, ◌+◌, List, [], Bool, true, false, Option, Some, None, option_map}
+use Rattle.std.specs.Prelude.{ℕ, ◌+◌, List, [], length, Bool, true, false, Option, Some, None, option_map}
 use Rattle.std.specs.Option.{option_or, option_map_or}
 use Rattle.std.specs.Fmt.{decimal}
 use Rattle.serde_json.specs.Data.{Data, null, boolean, number, string, array, object, Items, no_items, item, Members, no_members, member}
@@ -11,7 +11,7 @@ use Rattle.sc_schema_syntax.specs.declared.form.Form.TheVariants.{Object}
 use Rattle.sc_schema_syntax.specs.declared.level.Level.{Level}
 use Rattle.sc_schema_syntax.specs.declared.level.Level.TheVariants.{Schema}
 use Rattle.sc_schema_syntax.specs.Pointers.{under}
-use Rattle.sc_schema_syntax.specs.Forms.{admits_truth, admits_text, item_form, level_of, is_name, is_whole, member_form}
+use Rattle.sc_schema_syntax.specs.Forms.{admits_truth, admits_text, item_form, elements, form_at, level_of, is_name, is_whole, member_form}
 
 -- the fault that the value itself isn't of its form, unless it is
 abbrev pub shape_fault : Bool → Option SchemaFault
@@ -30,16 +30,18 @@ unfoldable mutual
   value_fault form (boolean truth) = shape_fault (admits_truth form truth)
   value_fault form (number n) = shape_fault false
   value_fault form (string text) = shape_fault (admits_text form text)
-  value_fault form (array items) = option_map_or (λ each. items_fault each 0 items) (item_form form) (shape_fault false)
+  value_fault form (array items) =
+      option_map_or (λ each. items_fault (form_at each items) 0 items) (item_form form (length (elements items)))
+      (shape_fault false)
   value_fault form (object members) =
       option_map_or (λ level. option_or (shape_fault (is_whole level members)) (members_fault level members))
       (level_of form members) (shape_fault false)
 
-  -- the first fault of the items of a list from this number on
-  pub items_fault : Form → ℕ → Items → Option SchemaFault
+  -- the first fault of the items of a list from this number on, each of which has its form by its number
+  pub items_fault : (ℕ → Data → Form) → ℕ → Items → Option SchemaFault
   items_fault form n no_items = None
   items_fault form n (item value items) =
-      option_or (option_map (under (decimal n)) (value_fault form value)) (items_fault form (n + 1) items)
+      option_or (option_map (under (decimal n)) (value_fault (form n value) value)) (items_fault form (n + 1) items)
 
   -- the first fault of the members of an object
   pub members_fault : Level → Members → Option SchemaFault

@@ -1,22 +1,23 @@
 -- Which trees are of the form of a schema file: at each place stands what may stand there.
-use Rattle.std.specs.Prelude.{◌≡◌, ℕ, List, Bool, true, Some, None}
+use Rattle.std.specs.Prelude.{◌≡◌, ℕ, List, length, Bool, true, Some, None}
 use Rattle.serde_json.specs.Data.{Data, boolean, string, array, object, Items, Members}
 use Rattle.sc_json.specs.Steps.{HasMember, HasItem}
 use Rattle.sc_schema_syntax.specs.declared.form.Form.{Form}
 use Rattle.sc_schema_syntax.specs.declared.form.Form.TheVariants.{Object}
 use Rattle.sc_schema_syntax.specs.declared.level.Level.{Level}
 use Rattle.sc_schema_syntax.specs.declared.level.Level.TheVariants.{Schema}
-use Rattle.sc_schema_syntax.specs.Forms.{admits_truth, admits_text, item_form, level_of, is_name, is_whole, member_form}
+use Rattle.sc_schema_syntax.specs.Forms.{admits_truth, admits_text, item_form, elements, form_at, level_of, is_name, is_whole, member_form}
 
 mutual
-  -- a value, with all that is inside of it, is of this form: a truth value or a text that it admits, a list whose
-  -- items are of the form that items have there, or an object that lacks no member and whose members are as they may
-  -- be there
+  -- a value, with all that is inside of it, is of this form: a truth value or a text that it admits, a list that may
+  -- have so many items, each of which is of the form that items have there, or an object that lacks no member and whose
+  -- members are as they may be there
   pub data IsOf : Form → Data → Type 0 where
     of_truth : (form : Form) (truth : Bool) → admits_truth form truth ≡ true → IsOf form (boolean truth)
     of_text : (form : Form) (text : List ℕ) → admits_text form text ≡ true → IsOf form (string text)
     of_list : (form each : Form) (items : Items)
-        → item_form form ≡ Some each → ((place : ℕ) (value : Data) → HasItem 0 items place value → IsOf each value)
+        → item_form form (length (elements items)) ≡ Some each
+        → ((place : ℕ) (value : Data) → HasItem 0 items place value → IsOf (form_at each items place value) value)
         → IsOf form (array items)
     of_object : (form : Form) (level : Level) (members : Members)
         → level_of form members ≡ Some level → is_whole level members ≡ true

@@ -1,8 +1,9 @@
 -- What may stand at each place of a schema file (Cedar's JSON schema format).
-use Rattle.std.specs.Prelude.{ℕ, List, [], ◌∷◌, ◌++◌, length, ◌==◌, ◌&&◌, ◌||◌, Bool, true, false, not, Option, Some, None, option_map, option_and_then, is_some, if◌then◌else◌, codes}
+use Rattle.std.specs.Prelude.{ℕ, List, [], ◌∷◌, ◌++◌, length, take, ◌==◌, nat_lt, ◌&&◌, ◌||◌, Bool, true, false, not, Option, Some, None, option_map, option_and_then, is_some, if◌then◌else◌, codes}
+use Rattle.std.specs.List.{list_any}
 use Rattle.std.specs.Option.{option_map_or}
 use Rattle.std.specs.Str.{bytes_eq}
-use Rattle.serde_json.specs.Data.{Members, no_members, member}
+use Rattle.serde_json.specs.Data.{Data, Items, no_items, item, Members, no_members, member}
 use Rattle.serde_json.specs.Find.{get_member, as_str}
 use Rattle.sc_names.specs.Names.{is_ident}
 use Rattle.sc_names.specs.Paths.{is_path}
@@ -25,22 +26,54 @@ admits_truth _ truth = false
 
 abbrev pub admits_text : Form → List ℕ → Bool
 admits_text form.Text text = true
+admits_text form.Choice text = true
 admits_text form.ExtensionName text = is_extension text
 admits_text _ text = false
 
--- what each item of a list has to be, if a list may stand there
-abbrev pub item_form : Form → Option Form
-item_form form.Texts = Some form.Text
-item_form form.Parents = Some (form.Object level.Parent)
-item_form _ = None
+-- how many choices an enumerated type may have at most
+abbrev pub most_choices : ℕ
+most_choices = 1000
+
+-- what each item of a list has to be, if a list of so many items may stand there; there is at least one choice
+abbrev pub item_form : Form → ℕ → Option Form
+item_form form.Texts count = Some form.Text
+item_form form.Parents count = Some (form.Object level.Parent)
+item_form form.Choices count = if (count == 0) || nat_lt most_choices count then None else Some form.Choice
+item_form _ count = None
+
+abbrev pub elements : Items → List Data
+elements no_items = []
+elements (item value items) = value ∷ elements items
+
+-- a value is this text
+abbrev pub is_text : List ℕ → Data → Bool
+is_text text value = option_map_or (λ other. bytes_eq other text) (as_str value) false
+
+-- a value is a text that one of the values before it is
+abbrev pub is_repeated : List Data → Data → Bool
+is_repeated before value = option_map_or (λ text. list_any (is_text text) before) (as_str value) false
+
+-- what an item behind these has to be: no choice is wanted twice
+abbrev pub form_behind : Form → List Data → Data → Form
+form_behind form.Choice before value = if is_repeated before value then form.Nothing else form.Choice
+form_behind each before value = each
+
+-- what the item with this number has to be, by the items before it
+abbrev pub form_at : Form → Items → ℕ → Data → Form
+form_at each items n = form_behind each (take n (elements items))
 
 -- the word of a type, if it is a text
 abbrev pub word_of : Members → Option TypeWord
 word_of ms = option_map type_word (option_and_then as_str (get_member (codes "type") ms))
 
+-- an entity type that has `enum` is enumerated
+abbrev pub entity_level : Members → Level
+entity_level ms = if is_some (get_member (codes "enum") ms) then level.Enumerated else level.EntityType
+
 -- which object has to stand there, if one may
 abbrev pub level_of : Form → Members → Option Level
 level_of (form.Object level) ms = Some level
+level_of form.EntityType ms = Some (entity_level ms)
 level_of (form.Type position) ms = Some (level.Type position (word_of ms))
 level_of _ ms = None
 
@@ -102,6 +135,9 @@ entity_type_members =
     ∷ (codes "shape", form.Type Elsewhere)
     ∷ (codes "tags", form.Type Elsewhere) ∷ []
 
+abbrev pub enumerated_members : List (List ℕ × Form)
+enumerated_members = (codes "enum", form.Choices) ∷ []
+
 abbrev pub action_members : List (List ℕ × Form)
 action_members =
     (codes "appliesTo", form.Object level.AppliesTo)
@@ -142,8 +178,9 @@ type_member position (Some w) = fixed ((codes "type", form.Text) ∷ (position_m
 abbrev pub member_form : Level → List ℕ → Option Form
 member_form level.Schema key = Some (form.Object level.Namespace)
 member_form level.Namespace key = fixed namespace_members key
-member_form level.EntityTypes key = Some (form.Object level.EntityType)
+member_form level.EntityTypes key = Some form.EntityType
 member_form level.EntityType key = fixed entity_type_members key
+member_form level.Enumerated key = fixed enumerated_members key
 member_form level.Actions key = Some (form.Object level.Action)
 member_form level.Action key = fixed action_members key
 member_form level.Parent key = fixed parent_members key

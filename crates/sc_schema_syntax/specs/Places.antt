@@ -1,5 +1,5 @@
 -- Where a file has faults of form, each seen from the value alone at which it stands, and which of them comes first.
-use Rattle.std.specs.Prelude.{◌≡◌, ◌↔◌, ℕ, ◌<◌, List, [], ◌∷◌, Bool, false, is_some, Some}
+use Rattle.std.specs.Prelude.{◌≡◌, ◌↔◌, ℕ, ◌<◌, List, [], ◌∷◌, length, Bool, false, is_some, Some}
 use Rattle.std.specs.Option.{option_map_or}
 use Rattle.std.specs.declared.cmp.Ordering.TheVariants.{Less}
 use Rattle.serde_json.specs.Data.{Data, null, boolean, number, string, array, object, Items, Members}
@@ -13,7 +13,7 @@ use Rattle.sc_schema_syntax.specs.declared.form.Form.TheVariants.{Object}
 use Rattle.sc_schema_syntax.specs.declared.level.Level.{Level}
 use Rattle.sc_schema_syntax.specs.declared.level.Level.TheVariants.{Schema}
 use Rattle.sc_schema_syntax.specs.Formed.{IsSchemaTree}
-use Rattle.sc_schema_syntax.specs.Forms.{admits_truth, admits_text, item_form, level_of, is_name, is_whole, member_form}
+use Rattle.sc_schema_syntax.specs.Forms.{admits_truth, admits_text, item_form, elements, form_at, level_of, is_name, is_whole, member_form}
 use Rattle.sc_schema_syntax.specs.declared.written_schema.WrittenSchema.{WrittenSchema}
 use Rattle.sc_schema_syntax.specs.Syntax.{Spells, HasFault}
 
@@ -34,7 +34,7 @@ is_shaped form null = false
 is_shaped form (boolean truth) = admits_truth form truth
 is_shaped form (number n) = false
 is_shaped form (string text) = admits_text form text
-is_shaped form (array items) = is_some (item_form form)
+is_shaped form (array items) = is_some (item_form form (length (elements items)))
 is_shaped form (object members) = option_map_or (λ level. is_whole level members) (level_of form members) false
 
 mutual
@@ -43,7 +43,8 @@ mutual
   pub data FaultAt : Form → Data → Kind → List Step → Type 0 where
     misshapen : (form : Form) (d : Data) → is_shaped form d ≡ false → FaultAt form d bad_shape []
     in_item : (form each : Form) (items : Items) (place : ℕ) (value : Data) (kind : Kind) (steps : List Step)
-        → item_form form ≡ Some each → HasItem 0 items place value → FaultAt each value kind steps
+        → item_form form (length (elements items)) ≡ Some each → HasItem 0 items place value
+        → FaultAt (form_at each items place value) value kind steps
         → FaultAt form (array items) kind (to_item place ∷ steps)
     in_member : (form : Form) (level : Level) (members : Members) (name : List ℕ) (value : Data) (kind : Kind)
         (steps : List Step)

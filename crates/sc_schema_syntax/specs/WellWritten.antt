@@ -1,9 +1,9 @@
 -- What holds of each schema that a file spells: the names of the members of an object ascend by their bytes, each
 -- once, and each is one that a member there may have.
-use Rattle.std.specs.Prelude.{◌≡◌, ℕ, List, map, true, IfSome, ⊤}
-use Rattle.std.specs.List.{AllByRecursion}
+use Rattle.std.specs.Prelude.{◌≡◌, ◌≢◌, ◌≤◌, ℕ, List, [], length, map, true, None, IfSome, ⊤}
+use Rattle.std.specs.List.{AllByRecursion, IsDistinct}
 use Rattle.std.specs.List.Sorted.{IsStrictlySortedBy}
-use Rattle.std.specs.Str.{IsUtf8}
+use Rattle.std.specs.Str.{IsUtf8, bytes_eq}
 use Rattle.sc_names.specs.Uids.{text_cmp}
 use Rattle.sc_schema_syntax.specs.declared.attribute.WrittenPresence.{WrittenPresence}
 use Rattle.sc_schema_syntax.specs.declared.level.Level.{Level}
@@ -15,7 +15,7 @@ use Rattle.sc_schema_syntax.specs.declared.written_common_type.WrittenCommonType
 use Rattle.sc_schema_syntax.specs.declared.written_entity_type.WrittenEntityType.{WrittenEntityType}
 use Rattle.sc_schema_syntax.specs.declared.written_namespace.WrittenNamespace.{WrittenNamespace}
 use Rattle.sc_schema_syntax.specs.declared.written_schema.WrittenSchema.{WrittenSchema}
-use Rattle.sc_schema_syntax.specs.Forms.{is_name}
+use Rattle.sc_schema_syntax.specs.Forms.{is_name, most_choices}
 
 -- the names of the members of an object of this level
 pub record AreNames (l : Level) (names : List (List ℕ)) : Type 0 where
@@ -45,9 +45,23 @@ IsWrittenType = every-WrittenType IsWrittenLevel
 
 -- ---- declarations
 
+-- the choices of an entity type: texts, each once
+pub record AreWrittenChoices (ids : List (List ℕ)) : Type 0 where
+  pub texts : AllByRecursion IsUtf8 ids
+  pub distinct : IsDistinct bytes_eq ids
+  pub few : length ids ≤ most_choices
+
+-- of an enumerated type nothing else is said
+pub record IsWrittenBare (e : WrittenEntityType) : Type 0 where
+  pub attributes : e.shape ≡ None
+  pub tagless : e.tags ≡ None
+  pub apart : e.parents ≡ []
+
 pub record IsWrittenEntityType (e : WrittenEntityType) : Type 0 where
   pub shape_type : IfSome e.shape IsWrittenType
   pub tag_type : IfSome e.tags IsWrittenType
+  pub ids : AreWrittenChoices e.choices
+  pub bare : e.choices ≢ [] → IsWrittenBare e
 
 pub record IsWrittenNamespace (n : WrittenNamespace) : Type 0 where
   pub ids : AreNames level.Actions (map (λ (a : WrittenAction). a.id) n.actions)

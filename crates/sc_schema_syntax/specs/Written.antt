@@ -1,7 +1,7 @@
 -- What the tree of a schema file says. What it is where the tree has a fault doesn't matter.
 use Rattle.std.specs.Prelude.{ℕ, List, [], ◌∷◌, map, Bool, true, false, Option, Some, None, option_map, option_and_then, unwrap_or, if◌then◌else◌, codes}
 use Rattle.std.specs.Str.{bytes_eq}
-use Rattle.serde_json.specs.Data.{Data, null, boolean, number, string, array, object, Items, no_items, item, Members, no_members, member}
+use Rattle.serde_json.specs.Data.{Data, null, boolean, number, string, array, object, Members, no_members, member}
 use Rattle.serde_json.specs.Find.{get, get_member, as_bool, as_str, as_array, as_object}
 use Rattle.sc_schema_syntax.specs.declared.attribute.WrittenPresence.{WrittenPresence}
 use Rattle.sc_schema_syntax.specs.declared.attribute.WrittenPresence.TheVariants.{Required, Optional}
@@ -17,6 +17,7 @@ use Rattle.sc_schema_syntax.specs.declared.written_common_type.WrittenCommonType
 use Rattle.sc_schema_syntax.specs.declared.written_entity_type.WrittenEntityType.{WrittenEntityType}
 use Rattle.sc_schema_syntax.specs.declared.written_namespace.WrittenNamespace.{WrittenNamespace}
 use Rattle.sc_schema_syntax.specs.declared.written_schema.WrittenSchema.{WrittenSchema}
+use Rattle.sc_schema_syntax.specs.Forms.{elements}
 use Rattle.sc_schema_syntax.specs.TypeWords.{type_word}
 
 -- ---- parts of a tree, each of which may be absent
@@ -24,10 +25,6 @@ use Rattle.sc_schema_syntax.specs.TypeWords.{type_word}
 abbrev pub entries : Members → List (List ℕ × Data)
 entries no_members = []
 entries (member key value members) = (key, value) ∷ entries members
-
-abbrev pub elements : Items → List Data
-elements no_items = []
-elements (item value items) = value ∷ elements items
 
 -- the members of an object, by their names
 abbrev pub entries_of : Option Data → List (List ℕ × Data)
@@ -122,6 +119,7 @@ entity_type_of (name, d) =
       parents = texts_of (get (codes "memberOfTypes") d);
       shape = option_map type_of (get (codes "shape") d);
       tags = option_map type_of (get (codes "tags") d);
+      choices = texts_of (get (codes "enum") d);
     }
 
 abbrev pub parent_of : Data → WrittenParent

@@ -13,7 +13,7 @@ use crate::written_entity_type::WrittenEntityType;
 use crate::written_namespace::WrittenNamespace;
 use crate::written_schema::WrittenSchema;
 use crate::written_type::WrittenType;
-use sc_lists::{Seq, Text};
+use sc_lists::{Seq, Shared, Text};
 use serde_json::Value;
 use std::alloc::{AllocError, Global};
 
@@ -48,6 +48,7 @@ impl FromMember for WrittenEntityType {
             name: Text::from_str(alloc, name)?,
             shape: type_of_any(alloc, value_at(value, "shape"))?,
             tags: type_of_any(alloc, value_at(value, "tags"))?,
+            choices: Shared::new(alloc, texts_of(alloc, value_at(value, "enum"))?)?,
         })
     }
 }

@@ -3,11 +3,11 @@ ghost use Rattle.std.specs.Prelude.{◌≡◌, [], IfOk};
 ghost use Rattle.std.specs.Option.{option_or};
 ghost use Rattle.serde_json.specs.Data.{array, object};
 ghost use Rattle.serde_json.specs.View.{view, items_view, members_view};
-ghost use Rattle.sc_schema_syntax.specs.Forms.{is_whole};
+ghost use Rattle.sc_schema_syntax.specs.Forms.{form_at, is_whole};
 ghost use Rattle.sc_schema_syntax.specs.Faults.{shape_fault, value_fault, items_fault, members_fault, member_fault, first_fault};
 
 use crate::fault::SchemaFault;
-use crate::form::{Form, admits_text, admits_truth, item_form};
+use crate::form::{Form, admits_text, admits_truth, form_at, item_form};
 use crate::level::{Level, is_name, is_whole, level_of};
 use crate::member_form::member_form;
 use crate::pointer::{under, under_item};
@@ -47,22 +47,24 @@ fn list_fault(
 ) -> Result<Option<SchemaFault>, AllocError>
     ensures { IfOk result (λ fault. fault ≡ value_fault form (array (items_view items.now.items))) }
 {
-    match item_form(form) {
+    match item_form(form, items.len()) {
         Some(each) => items_fault(alloc, each, items),
         None => shape_fault(alloc, false),
     }
 }
 
-/// The first fault of the items of a list.
+/// The first fault of the items of a list, each of which has to be of a form.
 #[cycle(checking)]
 fn items_fault(
     alloc: Global,
-    form: Form,
+    each: Form,
     items: &Vec<Value>,
 ) -> Result<Option<SchemaFault>, AllocError>
-    ensures { IfOk result (λ fault. fault ≡ items_fault form 0 (items_view items.now.items)) }
+    ensures { IfOk result (λ fault. fault
+        ≡ items_fault (form_at each (items_view items.now.items)) 0 (items_view items.now.items)) }
 {
     for (number, item) in items.iter().enumerate() {
+        let form = form_at(each, items, number, item);
         if let Some(fault) = value_fault(alloc, form, item)? {
             return Ok(Some(under_item(alloc, number, fault)?));
         }

@@ -2,7 +2,7 @@
 ghost use Rattle.std.specs.Prelude.{◌≡◌, option_map};
 ghost use Rattle.serde_json.specs.View.{members_view};
 ghost use Rattle.sc_schema_syntax.specs.TypeWords.{is_reserved};
-ghost use Rattle.sc_schema_syntax.specs.Forms.{word_of, level_of, is_name, required_by, required, is_empty, is_whole};
+ghost use Rattle.sc_schema_syntax.specs.Forms.{word_of, entity_level, level_of, is_name, required_by, required, is_empty, is_whole};
 
 use crate::form::Form;
 use crate::member::member;
@@ -21,8 +21,10 @@ pub(crate) enum Level {
     Namespace,
     /// Entity types, by their names.
     EntityTypes,
-    /// An entity type.
+    /// An entity type that isn't enumerated.
     EntityType,
+    /// An enumerated entity type.
+    Enumerated,
     /// Actions, by their ids.
     Actions,
     /// An action.
@@ -54,12 +56,23 @@ fn word_of(members: &Map<String, Value>) -> Option<TypeWord>
     }
 }
 
+/// Which object an entity type is: one that has `enum` is enumerated.
+fn entity_level(members: &Map<String, Value>) -> Level
+    ensures { result ≡ entity_level (members_view members.now.entries) }
+{
+    match member(members, "enum") {
+        Some(_) => Level::Enumerated,
+        None => Level::EntityType,
+    }
+}
+
 /// Which object has to stand where this form has to, if one may.
 pub(crate) fn level_of(form: Form, members: &Map<String, Value>) -> Option<Level>
     ensures { result ≡ level_of form (members_view members.now.entries) }
 {
     match form {
         Form::Object(level) => Some(level),
+        Form::EntityType => Some(entity_level(members)),
         Form::Type(position) => Some(Level::Type(position, word_of(members))),
         _ => None,
     }

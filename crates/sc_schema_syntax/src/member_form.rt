@@ -1,7 +1,7 @@
 //! What has to stand at each member of an object.
 ghost use Rattle.std.specs.Prelude.{◌≡◌, [], ◌∷◌, ◌++◌, Some, if◌then◌else◌, None, codes};
 ghost use Rattle.std.specs.Str.{bytes_eq};
-ghost use Rattle.sc_schema_syntax.specs.Forms.{member_form, among, namespace_members, entity_type_members, action_members, parent_members, applies_to_members, word_members, position_members, unread_type_member, type_member};
+ghost use Rattle.sc_schema_syntax.specs.Forms.{member_form, among, namespace_members, entity_type_members, enumerated_members, action_members, parent_members, applies_to_members, word_members, position_members, unread_type_member, type_member};
 
 use crate::form::Form;
 use crate::level::Level;
@@ -16,8 +16,9 @@ pub(crate) fn member_form(level: Level, name: &str) -> Option<Form>
     match level {
         Level::Schema => Some(Form::Object(Level::Namespace)),
         Level::Namespace => fixed(name, namespace_member(name)),
-        Level::EntityTypes => Some(Form::Object(Level::EntityType)),
+        Level::EntityTypes => Some(Form::EntityType),
         Level::EntityType => fixed(name, entity_type_member(name)),
+        Level::Enumerated => fixed(name, enumerated_member(name)),
         Level::Actions => Some(Form::Object(Level::Action)),
         Level::Action => fixed(name, action_member(name)),
         Level::Parent => fixed(name, parent_member(name)),
@@ -61,6 +62,16 @@ fn entity_type_member(name: &str) -> Form
         Form::Texts
     } else if equals(name, "shape") || equals(name, "tags") {
         Form::Type(Position::Elsewhere)
+    } else {
+        Form::Nothing
+    }
+}
+
+fn enumerated_member(name: &str) -> Form
+    ensures { result ≡ among enumerated_members name.now }
+{
+    if equals(name, "enum") {
+        Form::Choices
     } else {
         Form::Nothing
     }

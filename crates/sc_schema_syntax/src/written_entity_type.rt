@@ -1,6 +1,6 @@
 //! Entity types as a schema file says them.
 use crate::written_type::WrittenType;
-use sc_lists::{Seq, Text};
+use sc_lists::{Seq, Shared, Text};
 
 /// An entity type as a schema file says it. No name in it is looked up yet.
 #[derive(Drop)]
@@ -13,4 +13,7 @@ pub struct WrittenEntityType {
     pub shape: Option<WrittenType>,
     /// The type of each tag's value, where entities of the type have tags.
     pub tags: Option<WrittenType>,
+    /// The ids that its entities may have, in the order of the file, if the type is enumerated, and
+    /// else none.
+    pub choices: Shared<Seq<Text>>,
 }

@@ -3,8 +3,8 @@ use crate::texts::is_text;
 use sc_lists::Text;
 use sc_names::{Name, Uid, put_uid};
 use sc_schema::{
-    Env, Schema, Ty, action_ancestors, actions, ancestor_types, attrs_of, context_of, entity_types,
-    environments, is_action_type, lookup_laws, order_laws, tags_of,
+    Env, Schema, Ty, action_ancestors, actions, ancestor_types, attrs_of, choices_of, context_of,
+    entity_types, environments, is_action_type, kind_of, lookup_laws, order_laws, tags_of,
 };
 use sc_schema_json::read_schema;
 use std::alloc::{AllocError, Global};
@@ -228,6 +228,77 @@ const UNDER: &[(&str, &str, &str)] = &[
 fn types_above_types(rt: HostRuntime) {
     for &(text, of, above) in UNDER {
         assert!(rt; is_under(rt.alloc(), text, of, above), "{of}");
+    }
+}
+
+/// A schema of two enumerated types and one that isn't.
+const ROLES: &str = r#"{"": {
+    "entityTypes": {
+        "Level": {"enum": ["low", "high"]},
+        "Role": {"enum": ["reader", "admin", ""]},
+        "User": {"shape": {"type": "Record", "attributes": {"role": {"type": "Role"}}}}
+    },
+    "commonTypes": {"Role": {"type": "Entity", "name": "Role"}},
+    "actions": {"view": {}}
+}}"#;
+
+/// Writes texts, each with a comma behind it, and `none` where there are none.
+fn put_texts(told: &mut String, texts: Option<&[Text]>) -> Result<(), AllocError> {
+    match texts {
+        Some(texts) => put_each(told, texts),
+        None => told.push_str("none"),
+    }
+}
+
+fn put_each(told: &mut String, texts: &[Text]) -> Result<(), AllocError> {
+    for text in texts {
+        told.push_str(text.as_str())?;
+        told.push_str(",")?;
+    }
+    Ok(())
+}
+
+/// The choices of a type as they are read, and as its kind has them.
+fn choices_text(alloc: Global, schema: &Schema, name: &Name) -> Result<String, AllocError> {
+    let mut told = String::new(alloc);
+    put_texts(&mut told, choices_of(schema, name))?;
+    let kind = kind_of(alloc, schema, name)?;
+    told.push_str(" ")?;
+    told.push_str(kind.name.as_str())?;
+    told.push_str(" ")?;
+    put_each(&mut told, kind.choices.as_slice())?;
+    Ok(told)
+}
+
+fn has_choices_of_name(alloc: Global, text: &str, name: &Name, told: &str) -> bool {
+    match schema(alloc, text) {
+        Some(schema) => is_text(choices_text(alloc, &schema, name), told),
+        None => false,
+    }
+}
+
+/// Whether a type has these choices in a schema.
+fn has_choices(alloc: Global, text: &str, of: &str, told: &str) -> bool {
+    match name(alloc, of) {
+        Ok(name) => has_choices_of_name(alloc, text, &name, told),
+        Err(_) => false,
+    }
+}
+
+/// Schemas, types, and the choices of these.
+const CHOICES: &[(&str, &str, &str)] = &[
+    (ROLES, "Level", "low,high, Level low,high,"),
+    (ROLES, "Role", "reader,admin,, Role reader,admin,,"),
+    (ROLES, "User", "none User "),
+    (ROLES, "Action", "none Action "),
+    (ROLES, "Page", "none Page "),
+    (SAMPLE, "Doc", "none Doc "),
+];
+
+#[test]
+fn choices_in_their_order(rt: HostRuntime) {
+    for &(text, of, told) in CHOICES {
+        assert!(rt; has_choices(rt.alloc(), text, of, told), "{of}");
     }
 }
 

@@ -7,6 +7,8 @@ mod declarations;
 #[cfg(test)]
 mod declared;
 #[cfg(test)]
+mod enumerated;
+#[cfg(test)]
 mod hierarchy;
 #[cfg(test)]
 mod names;

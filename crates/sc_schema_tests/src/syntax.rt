@@ -85,10 +85,6 @@ const FAULTS: &[(&str, &str)] = &[
         "bad shape at //entityTypes/U/tags",
     ),
     (
-        r#"{"":{"entityTypes":{"U":{"enum":["a"]}}}}"#,
-        "bad shape at //entityTypes/U/enum",
-    ),
-    (
         r#"{"":{"entityTypes":{"U":{"shape":{"type":"Record","attributes":{},"additionalAttributes":true}}}}}"#,
         "bad shape at //entityTypes/U/shape/additionalAttributes",
     ),
@@ -268,7 +264,8 @@ const WHOLE: &str = r#"{
                 "shape": {"type": "Address"},
                 "tags": {"type": "String"}
             },
-            "Team": {}
+            "Team": {},
+            "Role": {"annotations": {}, "enum": ["reader", "admin", ""]}
         },
         "actions": {
             "view": {
@@ -291,6 +288,7 @@ namespace Shop
 action read
 action view in read in Action::all for User on User on Team with { }
 type Address = { checked: Boolean; from: ipaddr; more: set of common Shop::Address; number?: Long; other: any __cedar::Long; owner: entity User; price: decimal; street: String; }
+entity Role choice reader choice admin choice 
 entity Team
 entity User in Team in Shop::Club = common Address tags String
 "#;
@@ -387,6 +385,7 @@ fn put_entity_type(told: &mut String, declared: &WrittenEntityType) -> Result<()
     put_words(told, " in ", declared.parents.as_slice())?;
     put_part(told, " = ", &declared.shape)?;
     put_part(told, " tags ", &declared.tags)?;
+    put_words(told, " choice ", declared.choices.as_slice())?;
     told.push_str("\n")
 }
 

@@ -7,7 +7,7 @@ use Rattle.sc_schema_syntax.specs.declared.fault.SchemaFault.{SchemaFault}
 use Rattle.sc_schema_types.specs.declared.outline.Outline.{Outline}
 use Rattle.sc_schema_types.specs.References.{Names, Bodies, body_of}
 use Rattle.sc_schema_types.specs.Orders.{IsOrder}
-use Rattle.sc_schema_types.specs.Expansions.{Meaning}
+use Rattle.sc_schema_types.specs.Expansions.{kinds_of, Meaning}
 use Rattle.sc_schema_types.specs.Faults.{Judge, fault_of, first_fault}
 use Rattle.sc_schema_types.specs.Tables.{meaning_by, outlines_by, judged_by}
 use Rattle.sc_schema_types.specs.Types.{expanded_schema, IsExpansion, HasTypeFault}
@@ -18,21 +18,21 @@ module _ (s : ResolvedSchema) (order : Names) (ordered : IsOrder s order) (bodie
   same_bodies : bodies ≡ body_of s
   same_bodies = fun_ext same
 
-  judged_so : judged_by outlines ≡ fault_of (meaning_by (body_of s) order)
-  judged_so = ap judged_by (made ∙ ap (λ (b : Bodies). outlines_by b order) same_bodies) ∙ judged_by_outlines (body_of s) order
+  judged_so : judged_by outlines ≡ fault_of (kinds_of s) (meaning_by (kinds_of s) (body_of s) order)
+  judged_so = ap judged_by (made ∙ ap (λ (b : Bodies). outlines_by b order) same_bodies) ∙ judged_by_outlines (kinds_of s) (body_of s) order
 
-  found_so : (found : Option SchemaFault) → found ≡ first_fault (judged_by outlines) s → first_fault (fault_of (meaning_by (body_of s) order)) s ≡ found
+  found_so : (found : Option SchemaFault) → found ≡ first_fault (judged_by outlines) s → first_fault (fault_of (kinds_of s) (meaning_by (kinds_of s) (body_of s) order)) s ≡ found
   found_so found is = ap (λ (j : Judge). first_fault j s) (sym judged_so) ∙ sym is
 
   pub refused : (fault : SchemaFault) → Some fault ≡ first_fault (judged_by outlines) s → HasTypeFault s fault
-  refused fault is = record { order = order; ordered = ordered; m = meaning_by (body_of s) order; means = order_means s order ordered; told = found_so (Some fault) is }
+  refused fault is = record { order = order; ordered = ordered; m = meaning_by (kinds_of s) (body_of s) order; means = order_means s order ordered; told = found_so (Some fault) is }
 
-  pub written_out : (m : Meaning) (x : ExpandedSchema) → None ≡ first_fault (judged_by outlines) s → m ≡ meaning_by bodies order → x ≡ expanded_schema m s → IsExpansion s x
+  pub written_out : (m : Meaning) (x : ExpandedSchema) → None ≡ first_fault (judged_by outlines) s → m ≡ meaning_by (kinds_of s) bodies order → x ≡ expanded_schema m s → IsExpansion s x
   written_out m x none means is = record {
     order = order;
     ordered = ordered;
-    m = meaning_by (body_of s) order;
+    m = meaning_by (kinds_of s) (body_of s) order;
     means = order_means s order ordered;
     no_fault = found_so None none;
-    schema = is ∙ ap (λ (n : Meaning). expanded_schema n s) (means ∙ ap (λ (b : Bodies). meaning_by b order) same_bodies);
+    schema = is ∙ ap (λ (n : Meaning). expanded_schema n s) (means ∙ ap (λ (b : Bodies). meaning_by (kinds_of s) b order) same_bodies);
   }

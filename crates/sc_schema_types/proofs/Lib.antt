@@ -7,6 +7,7 @@ pub mod EveryLaws
 pub mod ExpandedLaws
 pub mod ExpansionLaws
 pub mod FaultsLaws
+pub mod KindsLaws
 pub mod LeadsLaws
 pub mod MeaningLaws
 pub mod MembersLaws

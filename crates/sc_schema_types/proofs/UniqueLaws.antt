@@ -2,11 +2,11 @@
 use Rattle.std.proofs.Common.{◌≡◌, ℕ, List, Some, Contains, sym, ◌∙◌, subst}
 use Rattle.sc_schema.specs.declared.resolved_type.ResolvedType.{ResolvedType}
 use Rattle.sc_schema.specs.declared.resolved_schema.ResolvedSchema.{ResolvedSchema}
-use Rattle.sc_schema.specs.Resolved.{common_types, common_names, entity_names, IsResolvedType, IsResolved}
+use Rattle.sc_schema.specs.Resolved.{common_types, common_names, IsResolvedType, IsResolved}
 use Rattle.sc_schema.specs.Expanded.{IsTypeAmong}
 use Rattle.sc_schema_types.specs.References.{Names, body_of, references, names_in}
 use Rattle.sc_schema_types.specs.Orders.{IsOrder}
-use Rattle.sc_schema_types.specs.Expansions.{Meaning, expanded, IsMeaning}
+use Rattle.sc_schema_types.specs.Expansions.{kinds_of, Meaning, expanded, IsMeaning}
 use Rattle.sc_schema_types.specs.Tables.{meaning_by}
 use Rattle.sc_schema_types.proofs.AgreeLaws.{same_expanded}
 use Rattle.sc_schema_types.proofs.DeclaredLaws.{body_in_order, body_resolved, named_has_body, names_declared}
@@ -15,8 +15,8 @@ use Rattle.sc_schema_types.proofs.MeaningLaws.{names_of_body, meant_by_order}
 use Rattle.sc_schema_types.proofs.ProperLaws.{proper_expanded}
 
 -- an order gives a meaning
-pub order_means : (s : ResolvedSchema) (order : Names) → IsOrder s order → IsMeaning (body_of s) (meaning_by (body_of s) order)
-order_means s order h name body is = (meant_by_order (body_of s) order h.leads_back).meant name body (body_in_order s order name body h is) is
+pub order_means : (s : ResolvedSchema) (order : Names) → IsOrder s order → IsMeaning (kinds_of s) (body_of s) (meaning_by (kinds_of s) (body_of s) order)
+order_means s order h name body is = (meant_by_order (kinds_of s) (body_of s) order h.leads_back).meant name body (body_in_order s order name body h is) is
 
 -- what holds of the meaning of each common type, by those that its body names
 module _ (s : ResolvedSchema) (resolved : IsResolved s) (order : Names) (ordered : IsOrder s order) (P : List ℕ → Type 0)
@@ -37,20 +37,20 @@ module _ (s : ResolvedSchema) (resolved : IsResolved s) (order : Names) (ordered
       let p = named_has_body (common_types s) q declared in
       by_order (references (body_of s)) order ordered.leads_back IfDeclared (λ r _ before. one_step r before) q (body_in_order s order q p.0 ordered p.1) declared
 
-module _ (s : ResolvedSchema) (resolved : IsResolved s) (order : Names) (ordered : IsOrder s order) (m : Meaning) (means : IsMeaning (body_of s) m) where
-  module _ (n : Meaning) (also : IsMeaning (body_of s) n) where
+module _ (s : ResolvedSchema) (resolved : IsResolved s) (order : Names) (ordered : IsOrder s order) (m : Meaning) (means : IsMeaning (kinds_of s) (body_of s) m) where
+  module _ (n : Meaning) (also : IsMeaning (kinds_of s) (body_of s) n) where
     same_meaning : (q : List ℕ) → Contains (common_names s) q → m q ≡ n q
     same_meaning = each_common s resolved order ordered (λ q. m q ≡ n q)
-        (λ q body is _ before. means q body is ∙ same_expanded m n body (record { same = before }) ∙ sym (also q body is))
+        (λ q body is _ before. means q body is ∙ same_expanded (kinds_of s) m n body (record { same = before }) ∙ sym (also q body is))
 
     -- a type has one expansion
-    pub one_type : (type : ResolvedType) → IsResolvedType s type → expanded m type ≡ expanded n type
-    one_type type h = same_expanded m n type (record { same = λ q has. same_meaning q (names_declared s type h q has) })
+    pub one_type : (type : ResolvedType) → IsResolvedType s type → expanded (kinds_of s) m type ≡ expanded (kinds_of s) n type
+    one_type type h = same_expanded (kinds_of s) m n type (record { same = λ q has. same_meaning q (names_declared s type h q has) })
 
-  proper_meaning : (q : List ℕ) → Contains (common_names s) q → IsTypeAmong (entity_names s) (m q)
-  proper_meaning = each_common s resolved order ordered (λ q. IsTypeAmong (entity_names s) (m q))
-      (λ q body is h before. subst (IsTypeAmong (entity_names s)) (sym (means q body is)) (proper_expanded s m body h (record { over = before })))
+  proper_meaning : (q : List ℕ) → Contains (common_names s) q → IsTypeAmong (kinds_of s) (m q)
+  proper_meaning = each_common s resolved order ordered (λ q. IsTypeAmong (kinds_of s) (m q))
+      (λ q body is h before. subst (IsTypeAmong (kinds_of s)) (sym (means q body is)) (proper_expanded s m body h (record { over = before })))
 
   -- and that is a proper type
-  pub proper_type : (type : ResolvedType) → IsResolvedType s type → IsTypeAmong (entity_names s) (expanded m type)
+  pub proper_type : (type : ResolvedType) → IsResolvedType s type → IsTypeAmong (kinds_of s) (expanded (kinds_of s) m type)
   proper_type type h = proper_expanded s m type h (record { over = λ q has. proper_meaning q (names_declared s type h q has) })

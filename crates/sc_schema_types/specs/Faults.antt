@@ -14,7 +14,7 @@ use Rattle.sc_schema_syntax.specs.Pointers.{under}
 use Rattle.sc_schema_types.specs.declared.wanted.Wanted.{Wanted}
 use Rattle.sc_schema_types.specs.declared.wanted.Wanted.TheVariants.{AnyType, RecordType}
 use Rattle.sc_schema_types.specs.Sizes.{is_too_large, is_record}
-use Rattle.sc_schema_types.specs.Expansions.{Meaning, expanded}
+use Rattle.sc_schema_types.specs.Expansions.{Kinds, Meaning, expanded}
 
 -- the fault of a type that may be any
 abbrev pub size_fault : Ty → Option SchemaFault
@@ -30,8 +30,8 @@ abbrev pub Judge : Type 0
 Judge = Wanted → ResolvedType → Option SchemaFault
 
 -- that of what it stands for
-abbrev pub fault_of : Meaning → Judge
-fault_of m wanted type = type_fault wanted (expanded m type)
+abbrev pub fault_of : Kinds → Meaning → Judge
+fault_of kinds m wanted type = type_fault wanted (expanded kinds m type)
 
 -- a fault at the member of this name
 abbrev pub inside : List ℕ → Option SchemaFault → Option SchemaFault

@@ -19,7 +19,7 @@ use Rattle.sc_schema_types.specs.declared.wanted.Wanted.{Wanted}
 use Rattle.sc_schema_types.specs.declared.wanted.Wanted.TheVariants.{AnyType, RecordType}
 use Rattle.sc_schema_types.specs.References.{Names, Bodies}
 use Rattle.sc_schema.specs.Sizes.{max_levels, max_nodes}
-use Rattle.sc_schema_types.specs.Expansions.{Meaning, expanded}
+use Rattle.sc_schema_types.specs.Expansions.{Kinds, Meaning, expanded}
 use Rattle.sc_schema_types.specs.Faults.{Judge}
 
 -- the bodies in a table
@@ -41,8 +41,8 @@ abbrev pub type_in : List (List ℕ × Ty) → Meaning
 type_in entries name = unwrap_or (lookup (is_at (text_cmp name)) entries) ty.Bool
 
 -- what common types stand for that are taken in this order
-abbrev pub meaning_by : Bodies → Names → Meaning
-meaning_by bodies order = fold (with_body bodies expanded) (λ _. ty.Bool) order
+abbrev pub meaning_by : Kinds → Bodies → Names → Meaning
+meaning_by kinds bodies order = fold (with_body bodies (expanded kinds)) (λ _. ty.Bool) order
 
 -- ---- outlines
 

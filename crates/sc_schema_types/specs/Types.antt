@@ -19,41 +19,47 @@ use Rattle.sc_schema.specs.Expanded.{expanded_names, expanded_uids}
 use Rattle.sc_schema.specs.Resolved.{entity_types, actions, entity_names, action_uids}
 use Rattle.sc_schema_types.specs.References.{Names, references, body_of, Reaches}
 use Rattle.sc_schema_types.specs.Orders.{IsOrder, IsTypeCycle}
-use Rattle.sc_schema_types.specs.Expansions.{Meaning, expanded, IsMeaning}
+use Rattle.sc_schema_types.specs.Expansions.{Kinds, kinds_of, Meaning, expanded, IsMeaning}
 use Rattle.sc_schema_types.specs.Faults.{fault_of, first_fault}
 
 -- ---- what is expanded
 
 -- the type that is written, or that of records without attributes
-abbrev pub record_type : Meaning → Option ResolvedType → Ty
-record_type m None = ty.Record []
-record_type m (Some type) = expanded m type
+abbrev pub record_type : Kinds → Meaning → Option ResolvedType → Ty
+record_type kinds m None = ty.Record []
+record_type kinds m (Some type) = expanded kinds m type
 
-abbrev pub expanded_action : Meaning → ResolvedAction → ExpandedAction
-expanded_action m a =
+abbrev pub expanded_action : Kinds → Meaning → ResolvedAction → ExpandedAction
+expanded_action kinds m a =
     record {
       uid = a.uid;
       parents = a.parents;
       principals = a.principals;
       resources = a.resources;
-      context = record_type m a.context;
+      context = record_type kinds m a.context;
     }
 
-abbrev pub expanded_entity_type : Meaning → ResolvedEntityType → ExpandedEntityType
-expanded_entity_type m t =
+abbrev pub expanded_entity_type : Kinds → Meaning → ResolvedEntityType → ExpandedEntityType
+expanded_entity_type kinds m t =
     record {
       name = t.name;
       parents = t.parents;
-      shape = record_type m t.shape;
-      tags = option_map (expanded m) t.tags;
+      shape = record_type kinds m t.shape;
+      tags = option_map (expanded kinds m) t.tags;
+      choices = t.choices;
     }
 
-abbrev pub expanded_schema : Meaning → ResolvedSchema → ExpandedSchema
-expanded_schema m s =
+abbrev pub expanded_by : Kinds → Meaning → ResolvedSchema → ExpandedSchema
+expanded_by kinds m s =
     record {
-      entity_types = flat_map (λ (n : ResolvedNamespace). map (expanded_entity_type m) n.entity_types) s.namespaces;
-      actions = flat_map (λ (n : ResolvedNamespace). map (expanded_action m) n.actions) s.namespaces;
+      entity_types =
+          flat_map (λ (n : ResolvedNamespace). map (expanded_entity_type kinds m) n.entity_types) s.namespaces;
+      actions = flat_map (λ (n : ResolvedNamespace). map (expanded_action kinds m) n.actions) s.namespaces;
     }
+
+-- the same, the entity types being those of the schema
+abbrev pub expanded_schema : Meaning → ResolvedSchema → ExpandedSchema
+expanded_schema m s = expanded_by (kinds_of s) m s
 
 -- the common types have an order and a meaning, in which no type of the schema has a fault, and this is what the entity
 -- types and actions are
@@ -61,8 +67,8 @@ pub record IsExpansion (s : ResolvedSchema) (x : ExpandedSchema) : Type 0 where
   pub order : Names
   pub ordered : IsOrder s order
   pub m : Meaning
-  pub means : IsMeaning (body_of s) m
-  pub no_fault : first_fault (fault_of m) s ≡ None
+  pub means : IsMeaning (kinds_of s) (body_of s) m
+  pub no_fault : first_fault (fault_of (kinds_of s) m) s ≡ None
   pub schema : x ≡ expanded_schema m s
 
 -- the common types have an order and a meaning, in which this is the first fault of a type of the schema
@@ -70,8 +76,8 @@ pub record HasTypeFault (s : ResolvedSchema) (fault : SchemaFault) : Type 0 wher
   pub order : Names
   pub ordered : IsOrder s order
   pub m : Meaning
-  pub means : IsMeaning (body_of s) m
-  pub told : first_fault (fault_of m) s ≡ Some fault
+  pub means : IsMeaning (kinds_of s) (body_of s) m
+  pub told : first_fault (fault_of (kinds_of s) m) s ≡ Some fault
 
 -- what it says of a schema that its types were refused with this fault
 abbrev pub Refuses : ResolvedSchema → Fault SchemaFault → Type 0
@@ -87,7 +93,7 @@ pub record IsSettled (s : ResolvedSchema) : Type 0 where
   pub order_or_cycle : ((order : Names) × IsOrder s order) ⊎ ((a : List ℕ) × IsTypeCycle s a)
   pub one_cycle : (a b : List ℕ) → IsTypeCycle s a → IsTypeCycle s b → a ≡ b
   pub no_cycle : (order : Names) (a : List ℕ) → IsOrder s order → ¬ Reaches (references (body_of s)) a a
-  pub meaning : (order : Names) → IsOrder s order → (m : Meaning) × IsMeaning (body_of s) m
+  pub meaning : (order : Names) → IsOrder s order → (m : Meaning) × IsMeaning (kinds_of s) (body_of s) m
   pub either : (order : Names) → IsOrder s order → ((x : ExpandedSchema) × IsExpansion s x)
       ⊎ ((fault : SchemaFault) × HasTypeFault s fault)
   pub one_expansion : (x y : ExpandedSchema) → IsExpansion s x → IsExpansion s y → x ≡ y

@@ -1,21 +1,22 @@
 //! Schemas, each common type in them written out.
 ghost use Rattle.std.specs.Prelude.{◌≡◌, ◌++◌, ℕ, List, map, option_map, IfOk, IfErr, OnOk};
 ghost use Rattle.std.specs.Option.{option_copied};
-ghost use Rattle.sc_schema_types.specs.Expansions.{expanded};
+ghost use Rattle.sc_schema_types.specs.Expansions.{kinds_of, expanded};
 ghost use Rattle.sc_schema_types.specs.Orders.{IsOrder};
 ghost use Rattle.sc_schema_types.specs.References.{body_of};
 ghost use Rattle.sc_schema_types.specs.Tables.{body_in, outline_in, outlines_by, type_in};
-ghost use Rattle.sc_schema_types.specs.Types.{record_type, expanded_action, expanded_entity_type, expanded_schema, IsExpansion, Refuses};
+ghost use Rattle.sc_schema_types.specs.Types.{record_type, expanded_action, expanded_entity_type, expanded_by, IsExpansion, Refuses};
 
 use crate::bodies::bodies_of;
 use crate::copying::copy_names;
 use crate::expansion::{expanded, meaning_of};
 use crate::faults::first_fault;
+use crate::kinds::kinds_of;
 use crate::outline::{Outline, outlines_of};
 use sc_lists::{Boxed, Fault, Seq};
 use sc_names::{Name, clone_uids};
 use sc_schema::{
-    Attributes, ExpandedAction, ExpandedEntityType, ExpandedSchema, ResolvedAction,
+    Attributes, EntityKind, ExpandedAction, ExpandedEntityType, ExpandedSchema, ResolvedAction,
     ResolvedEntityType, ResolvedSchema, ResolvedType, Ty,
 };
 use sc_schema_syntax::SchemaFault;
@@ -42,12 +43,14 @@ pub fn expand(
 {
     let bodies = bodies_of(alloc, schema)?;
     let outlines = outlines_of(alloc, &bodies, order)?;
-    expand_by(alloc, &bodies, &outlines, order, schema)
+    let kinds = kinds_of(alloc, schema)?;
+    expand_by(alloc, kinds.as_slice(), &bodies, &outlines, order, schema)
 }
 
-/// The same, of the bodies of common types and the outlines of what they stand for.
+/// The same, of the entity types, the bodies of common types and the outlines of what they stand for.
 fn expand_by(
     alloc: Global,
+    kinds: &[EntityKind],
     bodies: &BTreeMap<Name, &ResolvedType>,
     outlines: &BTreeMap<Name, Outline>,
     order: &[Name],
@@ -55,6 +58,7 @@ fn expand_by(
 ) -> Result<ExpandedSchema, Fault<SchemaFault>>
     requires order { IsOrder schema.now order.now }
     requires bodies { (name : List ℕ) → body_in bodies.now.entries name ≡ body_of schema.now name }
+    requires kinds { kinds.now ≡ kinds_of schema.now }
     requires outlines { outline_in outlines.now.entries ≡ outlines_by (body_in bodies.now.entries) order.now }
     ensures ok { IfOk result (λ all. IsExpansion schema.now all) }
     ensures err { IfErr result (λ fault. Refuses schema.now fault) }
@@ -62,30 +66,38 @@ fn expand_by(
     match first_fault(alloc, outlines, schema)? {
         Some(fault) => Err(Fault::Told(fault)),
         None => {
-            let table = meaning_of(alloc, bodies, order)?;
-            Ok(expanded_schema(alloc, &table, schema)?)
+            let table = meaning_of(alloc, kinds, bodies, order)?;
+            Ok(expanded_by(alloc, kinds, &table, schema)?)
         }
     }
 }
 
-/// What a schema declares, each common type being looked up in a table.
-fn expanded_schema(
+/// What a schema declares, each common type being looked up in a table, each entity type among these.
+fn expanded_by(
     alloc: Global,
+    kinds: &[EntityKind],
     table: &BTreeMap<Name, Ty>,
     schema: &ResolvedSchema,
 ) -> Result<ExpandedSchema, AllocError>
-    ensures { IfOk result (λ all. all ≡ expanded_schema (type_in table.now.entries) schema.now) }
+    ensures { IfOk result (λ all. all ≡ expanded_by kinds.now (type_in table.now.entries) schema.now) }
 {
     let mut entity_types = Seq::new(alloc);
     let mut actions = Seq::new(alloc);
     for namespace in schema.namespaces.as_slice() {
         put_entity_types(
             alloc,
+            kinds,
             table,
             &mut entity_types,
             namespace.entity_types.as_slice(),
         )?;
-        put_actions(alloc, table, &mut actions, namespace.actions.as_slice())?;
+        put_actions(
+            alloc,
+            kinds,
+            table,
+            &mut actions,
+            namespace.actions.as_slice(),
+        )?;
     }
     Ok(ExpandedSchema {
         entity_types,
@@ -95,14 +107,16 @@ fn expanded_schema(
 
 fn put_entity_types(
     alloc: Global,
+    kinds: &[EntityKind],
     table: &BTreeMap<Name, Ty>,
     all: &mut Seq<ExpandedEntityType>,
     types: &[ResolvedEntityType],
 ) -> Result<(), AllocError>
-    ensures { OnOk result (all.new ≡ all.old ++ map (expanded_entity_type (type_in table.now.entries)) types.now) }
+    ensures { OnOk result (all.new
+        ≡ all.old ++ map (expanded_entity_type kinds.now (type_in table.now.entries)) types.now) }
 {
     for declared in types {
-        all.push(expanded_entity_type(alloc, table, declared)?)?;
+        all.push(expanded_entity_type(alloc, kinds, table, declared)?)?;
     }
     Ok(())
 }
@@ -110,31 +124,35 @@ fn put_entity_types(
 /// An entity type, each common type being looked up in a table.
 fn expanded_entity_type(
     alloc: Global,
+    kinds: &[EntityKind],
     table: &BTreeMap<Name, Ty>,
     declared: &ResolvedEntityType,
 ) -> Result<ExpandedEntityType, AllocError>
-    ensures { IfOk result (λ x. x ≡ expanded_entity_type (type_in table.now.entries) declared.now) }
+    ensures { IfOk result (λ x. x ≡ expanded_entity_type kinds.now (type_in table.now.entries) declared.now) }
 {
-    let shape = record_type(alloc, table, declared.shape.as_ref())?;
+    let shape = record_type(alloc, kinds, table, declared.shape.as_ref())?;
     let shape = Boxed::new(alloc, shape)?;
     Ok(ExpandedEntityType {
         parents: copy_names(alloc, &declared.parents)?,
         name: declared.name.try_clone(alloc)?,
-        tags: tag_type(alloc, table, declared.tags.as_ref())?,
+        tags: tag_type(alloc, kinds, table, declared.tags.as_ref())?,
+        choices: declared.choices.try_clone()?,
         shape: shape.into_inner(),
     })
 }
 
 fn put_actions(
     alloc: Global,
+    kinds: &[EntityKind],
     table: &BTreeMap<Name, Ty>,
     all: &mut Seq<ExpandedAction>,
     actions: &[ResolvedAction],
 ) -> Result<(), AllocError>
-    ensures { OnOk result (all.new ≡ all.old ++ map (expanded_action (type_in table.now.entries)) actions.now) }
+    ensures { OnOk result (all.new
+        ≡ all.old ++ map (expanded_action kinds.now (type_in table.now.entries)) actions.now) }
 {
     for action in actions {
-        all.push(expanded_action(alloc, table, action)?)?;
+        all.push(expanded_action(alloc, kinds, table, action)?)?;
     }
     Ok(())
 }
@@ -142,30 +160,33 @@ fn put_actions(
 /// An action, each common type being looked up in a table.
 fn expanded_action(
     alloc: Global,
+    kinds: &[EntityKind],
     table: &BTreeMap<Name, Ty>,
     action: &ResolvedAction,
 ) -> Result<ExpandedAction, AllocError>
-    ensures { IfOk result (λ x. x ≡ expanded_action (type_in table.now.entries) action.now) }
+    ensures { IfOk result (λ x. x ≡ expanded_action kinds.now (type_in table.now.entries) action.now) }
 {
     Ok(ExpandedAction {
         parents: clone_uids(alloc, &action.parents)?,
         principals: copy_names(alloc, &action.principals)?,
         resources: copy_names(alloc, &action.resources)?,
         uid: action.uid.try_clone(alloc)?,
-        context: record_type(alloc, table, action.context.as_ref())?,
+        context: record_type(alloc, kinds, table, action.context.as_ref())?,
     })
 }
 
 /// The type of attributes, and that of records without attributes where none is written.
 fn record_type(
     alloc: Global,
+    kinds: &[EntityKind],
     table: &BTreeMap<Name, Ty>,
     resolved: Option<&ResolvedType>,
 ) -> Result<Ty, AllocError>
-    ensures { IfOk result (λ ty. ty ≡ record_type (type_in table.now.entries) (option_copied resolved.entry)) }
+    ensures { IfOk result (λ ty. ty
+        ≡ record_type kinds.now (type_in table.now.entries) (option_copied resolved.entry)) }
 {
     match resolved {
-        Some(resolved) => expanded(alloc, table, resolved),
+        Some(resolved) => expanded(alloc, kinds, table, resolved),
         None => Ok(Ty::Record(Attributes::new(alloc, Seq::new(alloc))?)),
     }
 }
@@ -173,14 +194,15 @@ fn record_type(
 /// The type of tags, if one is written.
 fn tag_type(
     alloc: Global,
+    kinds: &[EntityKind],
     table: &BTreeMap<Name, Ty>,
     resolved: Option<&ResolvedType>,
 ) -> Result<Option<Ty>, AllocError>
-    ensures { IfOk result (λ ty. ty ≡ option_map (expanded (type_in table.now.entries))
+    ensures { IfOk result (λ ty. ty ≡ option_map (expanded kinds.now (type_in table.now.entries))
         (option_copied resolved.entry)) }
 {
     match resolved {
-        Some(resolved) => Ok(Some(expanded(alloc, table, resolved)?)),
+        Some(resolved) => Ok(Some(expanded(alloc, kinds, table, resolved)?)),
         None => Ok(None),
     }
 }

@@ -6,21 +6,23 @@ ghost use Rattle.sc_schema.specs.declared.resolved_type.ResolvedType.{ResolvedTy
 ghost use Rattle.sc_schema_types.specs.Expansions.{expanded};
 ghost use Rattle.sc_schema_types.specs.Tables.{body_in, type_in, with_body, meaning_by};
 
+use crate::kinds::kind_among;
 use sc_lists::{Seq, Shared, Text};
 use sc_names::Name;
-use sc_schema::{Attributes, Presence, ResolvedType, Ty};
+use sc_schema::{Attributes, EntityKind, Presence, ResolvedType, Ty};
 use std::alloc::{AllocError, Global};
 use std::collections::BTreeMap;
 
 /// What a type stands for, each common type in it being looked up in a table.
 #[cycle(expansion)]
-#[tactic(auto, using(crate::proofs::ExpansionLaws::expanded_Set, crate::proofs::ExpansionLaws::expanded_Record, crate::proofs::ExpansionLaws::expanded_Common), unfolding(crate::specs::Expansions::expanded))]
+#[tactic(auto, using(crate::proofs::ExpansionLaws::expanded_Entity, crate::proofs::ExpansionLaws::expanded_Set, crate::proofs::ExpansionLaws::expanded_Record, crate::proofs::ExpansionLaws::expanded_Common), unfolding(crate::specs::Expansions::expanded))]
 pub(crate) fn expanded(
     alloc: Global,
+    kinds: &[EntityKind],
     table: &BTreeMap<Name, Ty>,
     resolved: &ResolvedType,
 ) -> Result<Ty, AllocError>
-    ensures { IfOk result (λ ty. ty ≡ expanded (type_in table.now.entries) resolved.now) }
+    ensures { IfOk result (λ ty. ty ≡ expanded kinds.now (type_in table.now.entries) resolved.now) }
 {
     match resolved {
         ResolvedType::Boolean => Ok(Ty::Bool),
@@ -28,12 +30,12 @@ pub(crate) fn expanded(
         ResolvedType::String => Ok(Ty::String),
         ResolvedType::Decimal => Ok(Ty::Decimal),
         ResolvedType::Ip => Ok(Ty::Ip),
-        ResolvedType::Entity(name) => Ok(Ty::Entity(name.try_clone(alloc)?)),
+        ResolvedType::Entity(name) => Ok(Ty::Entity(kind_among(alloc, kinds, name)?)),
         ResolvedType::Set(element) => {
-            Ok(Ty::Set(Shared::new(alloc, expanded(alloc, table, element.get())?)?))
+            Ok(Ty::Set(Shared::new(alloc, expanded(alloc, kinds, table, element.get())?)?))
         }
         ResolvedType::Record(attributes) => {
-            let fields = expanded_all(alloc, table, attributes.as_slice())?;
+            let fields = expanded_all(alloc, kinds, table, attributes.as_slice())?;
             Ok(Ty::Record(Attributes::new(alloc, fields)?))
         }
         ResolvedType::Common(name) => type_in(alloc, table, name),
@@ -44,18 +46,20 @@ pub(crate) fn expanded(
 #[cycle(expansion)]
 fn expanded_all(
     alloc: Global,
+    kinds: &[EntityKind],
     table: &BTreeMap<Name, Ty>,
     attributes: &[(Text, Presence, ResolvedType)],
 ) -> Result<Seq<(Text, Presence, Ty)>, AllocError>
     ensures { IfOk result (λ fields. fields ≡ map
-        (λ (a : List ℕ × AnyPresence × AnyType). (a.0, a.1, expanded (type_in table.now.entries) a.2)) attributes.now) }
+        (λ (a : List ℕ × AnyPresence × AnyType). (a.0, a.1, expanded kinds.now (type_in table.now.entries) a.2))
+        attributes.now) }
 {
     let mut fields = Seq::new(alloc);
     for attribute in attributes {
         fields.push((
             attribute.0.try_clone(alloc)?,
             attribute.1,
-            expanded(alloc, table, &attribute.2)?,
+            expanded(alloc, kinds, table, &attribute.2)?,
         ))?;
     }
     Ok(fields)
@@ -74,14 +78,16 @@ fn type_in(alloc: Global, table: &BTreeMap<Name, Ty>, name: &Name) -> Result<Ty,
 /// What common types stand for, which are taken in this order.
 pub(crate) fn meaning_of(
     alloc: Global,
+    kinds: &[EntityKind],
     bodies: &BTreeMap<Name, &ResolvedType>,
     order: &[Name],
 ) -> Result<BTreeMap<Name, Ty>, AllocError>
-    ensures { IfOk result (λ table. type_in table.entries ≡ meaning_by (body_in bodies.now.entries) order.now) }
+    ensures { IfOk result (λ table. type_in table.entries
+        ≡ meaning_by kinds.now (body_in bodies.now.entries) order.now) }
 {
     let mut table = BTreeMap::new(alloc);
     for name in order {
-        put_type(alloc, bodies, &mut table, name)?;
+        put_type(alloc, kinds, bodies, &mut table, name)?;
     }
     Ok(table)
 }
@@ -89,18 +95,19 @@ pub(crate) fn meaning_of(
 /// Puts what a common type stands for into a table, if it has a body.
 fn put_type(
     alloc: Global,
+    kinds: &[EntityKind],
     bodies: &BTreeMap<Name, &ResolvedType>,
     table: &mut BTreeMap<Name, Ty>,
     name: &Name,
 ) -> Result<(), AllocError>
     ensures { OnOk result (type_in table.new.entries
-        ≡ with_body (body_in bodies.now.entries) expanded (type_in table.old.entries) name.now) }
+        ≡ with_body (body_in bodies.now.entries) (expanded kinds.now) (type_in table.old.entries) name.now) }
 {
     let Some(body) = bodies.get(name) else {
         return Ok(());
     };
     let key = name.try_clone(alloc)?;
-    let ty = expanded(alloc, table, body)?;
+    let ty = expanded(alloc, kinds, table, body)?;
     table.insert(key, ty)?;
     Ok(())
 }

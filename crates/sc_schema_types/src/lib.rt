@@ -8,6 +8,7 @@ mod cycle;
 mod expanding;
 mod expansion;
 mod faults;
+mod kinds;
 mod law;
 mod names;
 mod order;

@@ -16,7 +16,7 @@ use Rattle.sc_footprint.specs.Problems.{Posed, IsPosed, AreClosed, atoms, closed
 use Rattle.sc_rule_laws.specs.Signed.{Signed, Said}
 use Rattle.sc_rule_laws.specs.Equal.{eq1, eq2, eq3, eq4, eq5, eq6, eq7, eq8}
 use Rattle.sc_rule_laws.specs.Sets.{se1, se2, se3, se4, se5, se6, se7, se8, se9, se10}
-use Rattle.sc_rule_laws.specs.Entities.{en1, en2, en3, en4, en5, en6, en7, en8}
+use Rattle.sc_rule_laws.specs.Entities.{en1, en2, en3, en4, en5, en6, en7, en8, eq9}
 use Rattle.sc_rule_laws.specs.Strings.{Pattern, st1, st2, st3}
 use Rattle.sc_rule_instances.specs.Clauses.{clause_for, is_clause, is_instance, said_clause}
 use Rattle.sc_rule_instances.specs.Instances.{on_one, on_two, on_three, on_four, equal_said, set_said, entity_said, said_by, equal_of, set_of, entity_of}
@@ -26,7 +26,7 @@ use Rattle.sc_rule_instances.specs.declared.rule.EqualRule.TheVariants.{Eq1, Eq2
 use Rattle.sc_rule_instances.specs.declared.rule.SetRule.{SetRule}
 use Rattle.sc_rule_instances.specs.declared.rule.SetRule.TheVariants.{Se1, Se2, Se3, Se4, Se5, Se6, Se7, Se8, Se9, Se10}
 use Rattle.sc_rule_instances.specs.declared.rule.EntityRule.{EntityRule}
-use Rattle.sc_rule_instances.specs.declared.rule.EntityRule.TheVariants.{En1, En2, En3, En4, En5, En6, En7, En8}
+use Rattle.sc_rule_instances.specs.declared.rule.EntityRule.TheVariants.{En1, En2, En3, En4, En5, En6, En7, En8, Eq9}
 use Rattle.th_strings_instances.specs.Instances.{with_term, all_at, on_all, said_of, string_of, IsCrowded, IsInstanceOf}
 use Rattle.th_strings_instances.specs.Names.{string_rule}
 use Rattle.th_strings_instances.specs.Patterns.{patterns, with_asked}
@@ -101,6 +101,7 @@ module _ (p q : Posed) (schema : p.schema ≡ q.schema) (goal : goal_term p ≡ 
   entity_same (En6 a) = λ i. on_one (terms a i) en6
   entity_same (En7 s x) = λ i. on_two (terms s i) (terms x i) (en7 (schema i))
   entity_same (En8 x) = λ i. on_one (terms x i) (en8 (schema i))
+  entity_same (Eq9 x) = λ i. on_one (terms x i) (eq9 (schema i))
 
   all_same : (ns : List ℕ) → all_at p ns ≡ all_at q ns
   all_same [] = refl

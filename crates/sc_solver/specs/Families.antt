@@ -1,4 +1,4 @@
--- Which theory an instance belongs to, by the first two letters of its rule.
+-- Which theory an instance belongs to, by the first letters of its rule.
 use Rattle.std.specs.Prelude.{◌≡◌, ◌==◌, ℕ, Bool, List, length, codes, nat_eq, if◌then◌else◌, refl}
 use Rattle.std.specs.List.{starts_with}
 use Rattle.sc_solver.specs.declared.family.Family.{Family}
@@ -7,10 +7,12 @@ use Rattle.sc_solver.specs.declared.family.Family.TheVariants.{Definition, Equal
 abbrev pub begins : List ℕ → List ℕ → Bool
 begins rule letters = starts_with nat_eq rule letters
 
--- a defining clause's rule has no letters
+-- A defining clause's rule has no letters. That entities of enumerated types are their choices is said by equations,
+-- and is a rule of entities.
 unfoldable pub family : List ℕ → Family
 family rule =
     if length rule == 0 then Definition
+    else if begins rule (codes "EQ9") then Entity
     else if begins rule (codes "EQ") then Equal
     else if begins rule (codes "SE") then Set
     else if begins rule (codes "EN") then Entity
@@ -30,3 +32,11 @@ se_alone_is_of_sets = refl
 pub e_is_of_none : family (codes "E") ≡ Other
 unfolding family
 e_is_of_none = refl
+
+pub eq9_is_of_entities : family (codes "EQ9") ≡ Entity
+unfolding family
+eq9_is_of_entities = refl
+
+pub eq8_is_of_equations : family (codes "EQ8") ≡ Equal
+unfolding family
+eq8_is_of_equations = refl

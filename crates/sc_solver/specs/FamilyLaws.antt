@@ -12,7 +12,7 @@ use Rattle.sc_rule_instances.specs.declared.rule.EqualRule.TheVariants.{Eq1, Eq2
 use Rattle.sc_rule_instances.specs.declared.rule.SetRule.{SetRule}
 use Rattle.sc_rule_instances.specs.declared.rule.SetRule.TheVariants.{Se1, Se2, Se3, Se4, Se5, Se6, Se7, Se8, Se9, Se10}
 use Rattle.sc_rule_instances.specs.declared.rule.EntityRule.{EntityRule}
-use Rattle.sc_rule_instances.specs.declared.rule.EntityRule.TheVariants.{En1, En2, En3, En4, En5, En6, En7, En8}
+use Rattle.sc_rule_instances.specs.declared.rule.EntityRule.TheVariants.{En1, En2, En3, En4, En5, En6, En7, En8, Eq9}
 use Rattle.sc_clauses.specs.declared.step.Word.{Word}
 use Rattle.sc_clauses.specs.declared.step.Word.TheVariants.{Number, Signs as Signed}
 use Rattle.sc_footprint.specs.Written.{is_word}
@@ -89,7 +89,8 @@ module _ (rule : List ℕ) where
   entity_letters r (Number a ∷ []) e =
       named rule Entity r (codes "EN4") refl (En4 a) _ e (λ e.
       named rule Entity r (codes "EN6") refl (En6 a) _ e (λ e.
-      named rule Entity r (codes "EN8") refl (En8 a) None e (λ f. absurd cc)))
+      named rule Entity r (codes "EN8") refl (En8 a) _ e (λ e.
+      named rule Entity r (codes "EQ9") refl (Eq9 a) None e (λ f. absurd cc))))
   entity_letters r (Number a ∷ Signed v ∷ ws) e = absurd cc
   entity_letters r (Number a ∷ Number b ∷ []) e =
       named rule Entity r (codes "EN7") refl (En7 a b) None e (λ f. absurd cc)

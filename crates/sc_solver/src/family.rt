@@ -27,8 +27,8 @@ fn begins(rule: &[u8], letters: &[u8]) -> bool
     rule.starts_with(letters)
 }
 
-/// The theory that an instance belongs to, by the first two letters of its rule. A defining clause's
-/// rule has no letters.
+/// The theory that an instance belongs to, by the first letters of its rule. A defining clause's rule
+/// has no letters.
 #[tactic(auto, unfolding(crate::specs::Families::family))]
 pub fn family_of(instance: &Instance) -> Family
     ensures { result ≡ family instance.now.rule }
@@ -36,6 +36,8 @@ pub fn family_of(instance: &Instance) -> Family
     let rule = instance.rule.as_str().as_bytes();
     if rule.is_empty() {
         Family::Definition
+    } else if begins(rule, b"EQ9") {
+        Family::Entity
     } else if begins(rule, b"EQ") {
         Family::Equal
     } else if begins(rule, b"SE") {

@@ -16,7 +16,7 @@ is_option_level X _ = false
 abbrev pub is_option : Sort → Bool
 is_option x = is_option_level Sort (out-Sort x)
 
--- the least of the entities that are listed, and the entity with no id where none is
+-- the first of the entities that are listed, and the entity with no id where none is
 abbrev pub default_uid : List ℕ → List Uid → Uid
 default_uid name [] = record { type_name = name; id = [] }
 default_uid name (u ∷ us) = u

@@ -1,9 +1,10 @@
 -- The sort of each type.
-use Rattle.std.specs.Prelude.{ℕ, List, [], map}
+use Rattle.std.specs.Prelude.{ℕ, List, map}
 use Rattle.sc_schema.specs.declared.ty.Presence.{Presence}
 use Rattle.sc_schema.specs.declared.ty.Presence.TheVariants.{Required, Optional}
 use Rattle.sc_schema.specs.declared.ty.Ty.{Ty, Ty-F, fold-Ty}
 use Rattle.sc_schema.specs.declared.ty.Ty.TheOpen as t
+use Rattle.sc_sorts.specs.Entities.{uids_of}
 use Rattle.sc_sorts.specs.declared.sort.Sort.{Sort}
 use Rattle.sc_sorts.specs.declared.sort.Sort.TheVariants as sort
 
@@ -20,7 +21,7 @@ sort_step t.Long = sort.Long
 sort_step t.String = sort.String
 sort_step t.Decimal = sort.Decimal
 sort_step t.Ip = sort.Ip
-sort_step (t.Entity name) = sort.Entity name []
+sort_step (t.Entity kind) = sort.Entity kind.name (uids_of kind)
 sort_step (t.Set member) = sort.Set member
 sort_step (t.Record fields) = sort.Record (map (λ (f : List ℕ × Presence × Sort). (f.0, with_presence f.1 f.2)) fields)
 

@@ -9,7 +9,7 @@ use sc_names::{Name, Uid};
 use sc_values::{Decimal, Ip, Rec, Value};
 use std::alloc::{AllocError, Global};
 
-/// The default of a sort: what is false, zero or empty; of entities the least that is listed, and
+/// The default of a sort: what is false, zero or empty; of entities the first that is listed, and
 /// where none is the one with no id; the record of just the fields that it may not lack; and of an
 /// option sort the default of what it holds.
 #[cycle(defaults)]
@@ -65,13 +65,13 @@ fn is_option(sort: &Sort) -> bool
     matches!(sort, Sort::Option(_))
 }
 
-/// The default entity of a type of which these are listed: the least of them, and the one with no
+/// The default entity of a type of which these are listed: the first of them, and the one with no
 /// id where none is.
 pub fn default_uid(alloc: Global, name: &Name, choices: &Seq<Uid>) -> Result<Uid, AllocError>
     ensures { IfOk result (λ u. u ≡ default_uid name.now choices.now) }
 {
     match choices.as_slice().split_first() {
-        Some((least, _)) => least.try_clone(alloc),
+        Some((first, _)) => first.try_clone(alloc),
         None => Uid::nameless(alloc, name),
     }
 }

@@ -19,7 +19,8 @@ pub enum Literal {
     Decimal(Decimal),
     /// An address of the internet protocol.
     Ip(Ip),
-    /// An entity. Where its type is one of actions, the declared ones of the type stand beside it.
+    /// An entity. Beside it stand those that its sort lists: the declared ones of a type of actions,
+    /// the choices of an enumerated type.
     Entity(Uid, Seq<Uid>),
 }
 

@@ -2,14 +2,14 @@
 ghost use Rattle.std.specs.Prelude.{◌≡◌, ◌++◌, [], ◌∷◌, map, IfOk, OnOk};
 ghost use Rattle.sc_sorts.specs.OfTypes.{sort_of, field_sort, with_presence};
 
+use crate::entities::uids_of;
 use crate::sort::Sort;
 use sc_lists::{Boxed, Seq, Shared, Text};
 use sc_schema::{Attributes, Presence, Ty};
 use std::alloc::{AllocError, Global};
 
 /// The sort of a type's values. Both truth values are of one sort, an attribute that a record may
-/// lack is of an option sort, and types of a schema name no type of actions, so no entities are
-/// listed.
+/// lack is of an option sort, and of entities the choices of their type are listed.
 #[cycle(sorts)]
 #[tactic(auto, using(crate::proofs::OfTypesLaws::sort_of_Record, crate::proofs::OfTypesLaws::sort_of_Set), unfolding(crate::specs::OfTypes::sort_of))]
 pub fn sort_of(alloc: Global, ty: &Ty) -> Result<Sort, AllocError>
@@ -23,7 +23,7 @@ pub fn sort_of(alloc: Global, ty: &Ty) -> Result<Sort, AllocError>
         Ty::String => Ok(Sort::String),
         Ty::Decimal => Ok(Sort::Decimal),
         Ty::Ip => Ok(Sort::Ip),
-        Ty::Entity(name) => Ok(Sort::Entity(name.try_clone(alloc)?, Seq::new(alloc))),
+        Ty::Entity(kind) => Ok(Sort::Entity(kind.name.try_clone(alloc)?, uids_of(alloc, kind)?)),
         Ty::Set(member) => Ok(Sort::Set(boxed_sort(alloc, member)?)),
         Ty::Record(attributes) => Ok(Sort::Record(sorts_of(alloc, attributes)?)),
     }

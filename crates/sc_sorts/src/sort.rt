@@ -16,8 +16,9 @@ pub enum Sort {
     Decimal,
     /// Addresses of the internet protocol.
     Ip,
-    /// Entities of the named type. Of a type of actions the declared ones are listed, ascending,
-    /// since it has no others; of another type none are.
+    /// Entities of the named type, with those listed that there are where it has no others: of a
+    /// type of actions the declared ones, ascending; of an enumerated type its choices, in the
+    /// order in which they are declared; of another type none.
     Entity(Name, Seq<Uid>),
     /// Sets with members of a sort.
     Set(Boxed<Sort>),

@@ -1,15 +1,11 @@
 -- Literals and entities that are equal.
-use Rattle.std.proofs.Common.{◌≡◌, ℕ, List, Bool, true, false, Option, Some, is_some, Ok, refl, sym, ap, subst, ◌∙◌}
-use Rattle.std.specs.Option.{option_and_then}
+use Rattle.std.proofs.Common.{◌≡◌, ℕ, List, Bool, true, false, Some, Ok, refl, sym, ap, ◌∙◌}
 use Rattle.std.specs.Str.{bytes_eq}
 use Rattle.std.proofs.lemmas.Slice.Eq.{bytes_eq-Decides}
 use Rattle.sc_ast.specs.declared.expr.Expr.{Expr, Expr-F, out-Expr, map-Expr, fold_out-Expr}
 use Rattle.sc_ast.specs.declared.expr.Expr.TheOpen as e
 use Rattle.sc_ast.specs.declared.literal.Literal.{Literal}
 use Rattle.sc_names.specs.declared.uid.Uid.{Uid}
-use Rattle.sc_schema.specs.declared.ty.Ty.{Ty, Ty-F, out-Ty, map-Ty, fold_out-Ty}
-use Rattle.sc_schema.specs.declared.ty.Ty.TheVariants as types
-use Rattle.sc_schema.specs.declared.ty.Ty.TheOpen as t
 use Rattle.sc_values.specs.declared.value.Value.{Value, out-Value}
 use Rattle.sc_values.specs.declared.value.Value.TheVariants as value
 use Rattle.sc_values.specs.declared.value.Value.TheOpen as v
@@ -20,7 +16,6 @@ use Rattle.sc_eval.specs.Collections.{is_same}
 use Rattle.sc_eval.specs.Operators.{literal_value}
 use Rattle.sc_eval.specs.Eval.{Meaning, eval_step, eval}
 use Rattle.sc_eval.specs.CollectionLaws.{is_same-decides}
-use Rattle.sc_typed.specs.Types.{entity_name, entity_name_in, only_if, same_name, join_step, join}
 use Rattle.sc_typed.specs.Literals.{literal_in, literal_of}
 
 -- ---- literals
@@ -39,32 +34,15 @@ same_value x y h = cc
 
 -- ---- entities of two types
 
-names_in : (y : Ty-F Ty) (a : List ℕ) (b : Ty) → entity_name_in y ≡ Some a → join_step (map-Ty Ty (Ty → Option Ty) join y) b ≡ option_and_then (same_name a) (entity_name b)
-names_in (t.Entity n) a b h = let is : n ≡ a = cc in ap (λ m. option_and_then (same_name m) (entity_name b)) is
-names_in _ a b h = absurd cc
-
--- the types of entities join where they are one
-pub join-entities : (s u : Ty) (a b : List ℕ) → entity_name s ≡ Some a → entity_name u ≡ Some b → join s u ≡ same_name a b
-unfolding join
-join-entities s u a b h k =
-    ap (λ f. f u) (fold_out-Ty (Ty → Option Ty) join_step s)
-    ∙ names_in (out-Ty s) a u h
-    ∙ ap (option_and_then (same_name a)) k
-
-joins_one : (a : List ℕ) (r : Bool) → bytes_eq a a ≡ r → is_some (only_if r (types.Entity a)) ≡ true
-joins_one a true h = refl
-joins_one a false h = absurd (let e : false ≡ true = sym h ∙ (bytes_eq-Decides a a).1 refl in cc)
-
 pub same_entity : (m n : Uid) → value.Entity m ≡ value.Entity n → m ≡ n
 same_entity m n h = let inside : v.Entity m ≡ v.Entity n = sym (out_Entity m) ∙ ap out-Value h ∙ out_Entity n in cc
 
--- values of types of entities that don't join are two
-pub entities-differ : (a b : List ℕ) (s u : Ty) (x y : Value) (m n : Uid) → entity_name s ≡ Some a → entity_name u ≡ Some b → is_some (join s u) ≡ false
+-- entities of types of two names are two
+pub entities-differ : (a b : List ℕ) (x y : Value) (m n : Uid) → bytes_eq a b ≡ false
     → x ≡ value.Entity m → m.type_name ≡ a → y ≡ value.Entity n → n.type_name ≡ b → (r : Bool) → is_same x y ≡ r → r ≡ false
-entities-differ a b s u x y m n sa ub apart xm ma yn nb false is = refl
-entities-differ a b s u x y m n sa ub apart xm ma yn nb true is =
+entities-differ a b x y m n apart xm ma yn nb false is = refl
+entities-differ a b x y m n apart xm ma yn nb true is =
     let one : x ≡ y = (is_same-decides x y).0 is in
     let uids : m ≡ n = same_entity m n (sym xm ∙ one ∙ yn) in
     let names : a ≡ b = sym ma ∙ ap (λ (k : Uid). k.type_name) uids ∙ nb in
-    let joined : is_some (same_name a b) ≡ true = subst (λ c. is_some (same_name a c) ≡ true) names (joins_one a (bytes_eq a a) refl) in
-    absurd (let both : false ≡ true = sym apart ∙ ap is_some (join-entities s u a b sa ub) ∙ joined in cc)
+    absurd (let both : false ≡ true = sym apart ∙ (bytes_eq-Decides a b).1 names in cc)

@@ -2,9 +2,11 @@
 use Rattle.std.proofs.Common.{◌≡◌, ◌&&◌, ◌||◌, ℕ, List, [], ◌∷◌, map, Bool, true, false, if◌then◌else◌, IsTrue, Option, Some, None, option_map, refl, sym, ap, subst, subst₂, ◌∙◌}
 use Rattle.std.specs.List.{list_all, list_any}
 use Rattle.std.specs.Option.{option_and_then}
+use Rattle.std.specs.Cmp.Lexicographic.{pointwise}
 use Rattle.std.specs.Str.{bytes_eq}
 use Rattle.std.proofs.lemmas.Slice.Eq.{bytes_eq-Decides}
 use Rattle.std.proofs.lemmas.Bool.{and_from, and_parts}
+use Rattle.sc_schema.specs.declared.ty.EntityKind.{EntityKind}
 use Rattle.sc_schema.specs.declared.ty.Presence.{Presence}
 use Rattle.sc_schema.specs.declared.ty.Presence.TheVariants.{Required, Optional}
 use Rattle.sc_schema.specs.declared.ty.Ty.{Ty, Ty-F, out-Ty, roll-Ty, map-Ty, ind-Ty, fold-roll-Ty}
@@ -15,7 +17,8 @@ use Rattle.sc_values.specs.declared.value.Value.{Value, Value-F, out-Value}
 use Rattle.sc_values.specs.declared.value.Value.TheOpen as v
 use Rattle.sc_values.specs.Records.{Fields, field}
 use Rattle.sc_world.specs.Conforms.{Test, conforms, is_set_of, is_record_of, passes, has_shape, shape_of}
-use Rattle.sc_typed.specs.Types.{Field, is_true_in, is_false_in, is_boolean_in, is_long_in, is_string_in, is_decimal_in, is_ip_in, entity_name_in, member_in, record_fields_in, only_if, same_name, same_presence, with_front, join_fields, join_step, join}
+use Rattle.sc_typed.specs.Types.{Field, is_true_in, is_false_in, is_boolean_in, is_long_in, is_string_in, is_decimal_in, is_ip_in, entity_kind_in, member_in, record_fields_in, only_if, same_kind, same_presence, with_front, join_fields, join_step, join}
+use Rattle.sc_typed.proofs.KindLaws.{one_kind}
 use Rattle.sc_soundness_laws.proofs.ValueLaws.{fits, conforms-out, conforms-roll}
 use Rattle.sc_world.proofs.ConformsLaws.{truth_is_bool}
 
@@ -93,16 +96,15 @@ ip_row : (z : Ty-F Ty) (u : Ty) → only_if (is_ip_in z) types.Ip ≡ Some u →
 ip_row t.Ip u e = let is : types.Ip ≡ u = cc in twice types.Ip u t.Ip rolls-Ip is
 ip_row _ u e = absurd cc
 
-same_entity : (a n : List ℕ) (u : Ty) (b : Bool) → bytes_eq a n ≡ b → only_if b (types.Entity n) ≡ Some u → BothFit (t.Entity a) (t.Entity n) u
+same_entity : (a n : EntityKind) (u : Ty) (b : Bool) → (bytes_eq a.name n.name && pointwise bytes_eq a.choices n.choices) ≡ b → only_if b (types.Entity n) ≡ Some u → BothFit (t.Entity a) (t.Entity n) u
 same_entity a n u true at e =
     let is : types.Entity n ≡ u = cc in
-    let one : a ≡ n = (bytes_eq-Decides a n).0 at in
     let second : FitsIn (t.Entity n) u = named (types.Entity n) u (t.Entity n) (rolls-Entity n) is in
-    (subst (λ m. FitsIn (t.Entity m) u) (sym one) second, second)
+    (subst (λ m. FitsIn (t.Entity m) u) (sym (one_kind a n at)) second, second)
 same_entity a n u false at e = absurd cc
 
-entity_row : (a : List ℕ) (z : Ty-F Ty) (u : Ty) → option_and_then (same_name a) (entity_name_in z) ≡ Some u → BothFit (t.Entity a) z u
-entity_row a (t.Entity n) u e = same_entity a n u (bytes_eq a n) refl e
+entity_row : (a : EntityKind) (z : Ty-F Ty) (u : Ty) → option_and_then (same_kind a) (entity_kind_in z) ≡ Some u → BothFit (t.Entity a) z u
+entity_row a (t.Entity n) u e = same_entity a n u _ refl e
 entity_row a _ u e = absurd cc
 
 -- ---- sets

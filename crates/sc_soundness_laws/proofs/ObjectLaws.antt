@@ -78,7 +78,7 @@ record_shape t.Long attrs h = fails _ _ (ap is_long (out_Record attrs)) h
 record_shape t.String attrs h = fails _ _ (ap is_string (out_Record attrs)) h
 record_shape t.Decimal attrs h = fails _ _ (ap is_decimal (out_Record attrs)) h
 record_shape t.Ip attrs h = fails _ _ (ap is_ip (out_Record attrs)) h
-record_shape (t.Entity name) attrs h = fails _ _ (ap (is_entity_of name) (out_Record attrs)) h
+record_shape (t.Entity kind) attrs h = fails _ _ (ap (is_entity_of kind) (out_Record attrs)) h
 record_shape (t.Set m) attrs h = fails _ _ (ap (is_set_of (conforms m)) (out_Record attrs)) h
 record_shape (t.Record gs) attrs h = sym (ap (is_record_of (shape_of gs)) (out_Record attrs)) ∙ h
 
@@ -128,10 +128,10 @@ module _ (s : Declarations) (env : Env) (literals : List Uid) (w : World) (well 
   object_at (t.Record gs) type fields x at e h k =
       let same : gs ≡ fields = cc in
       subst (λ (fs : List Field). (attrs : Fields) × IsObject w fs x attrs) same (record_object gs x h k.stored)
-  object_at (t.Entity name) type fields x at e h k =
-      let same : unwrap_or (option_and_then record_fields (attrs_of s name)) [] ≡ fields = cc in
-      let p = entity_of w name type x (ap entity_name_in at) k in
-      subst (λ (fs : List Field). (attrs : Fields) × IsObject w fs x attrs) same (entity_object name x p.0 p.1)
+  object_at (t.Entity kind) type fields x at e h k =
+      let same : unwrap_or (option_and_then record_fields (attrs_of s kind.name)) [] ≡ fields = cc in
+      let p = entity_of w kind.name type x (ap entity_name_in at) k in
+      subst (λ (fs : List Field). (attrs : Fields) × IsObject w fs x attrs) same (entity_object kind.name x p.0 p.1)
   object_at _ type fields x at e h k = absurd cc
 
   -- a value of a type that has attributes

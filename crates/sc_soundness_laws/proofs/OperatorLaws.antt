@@ -2,6 +2,8 @@
 use Rattle.std.proofs.Common.{◌≡◌, ◌&&◌, ℕ, ℤ, ◌+ℤ◌, ◌-ℤ◌, ◌*ℤ◌, neg_ℤ, List, [], ◌∷◌, Bool, true, false, not, if◌then◌else◌, Option, Some, None, is_some, IsTrue, MatchOption, Result, Ok, Err, IfOk, int_lt, int_le, refl, sym, ap, subst, ◌∙◌}
 use Rattle.std.specs.List.{AllByRecursion, list_any, list_all}
 use Rattle.std.specs.Option.{option_and_then}
+use Rattle.std.specs.Str.{bytes_eq}
+use Rattle.sc_laws.proofs.BoolLaws.{not_is_true}
 use Rattle.sc_ast.specs.declared.expr.Expr.{Expr}
 use Rattle.sc_ast.specs.declared.literal.Literal.{Literal}
 use Rattle.sc_ast.specs.declared.literal.Literal.TheVariants as literal
@@ -44,7 +46,7 @@ use Rattle.sc_typed.specs.Types.{is_true, is_false, is_either, is_boolean, is_lo
 use Rattle.sc_typed.specs.Capabilities.{Capabilities, tag_of, is_known}
 use Rattle.sc_typed.specs.Outcomes.{ty}
 use Rattle.sc_typed.specs.Literals.{literal_of, text_of, text_in as text_of_literal, same_literal}
-use Rattle.sc_typing_rules.specs.Operators.{are_entities, compared, equal_by, given_by, given_tag, negated, reads}
+use Rattle.sc_typing_rules.specs.Operators.{are_apart, compared, equal_by, given_by, given_tag, negated, reads}
 use Rattle.sc_typing_rules.specs.Operators as ops
 use Rattle.sc_typed.proofs.OutcomeLaws.{through, in_either, checked, found}
 use Rattle.sc_soundness_laws.specs.Sound.{IsOf, OrOverflows, AllHold}
@@ -191,20 +193,20 @@ module _ (s : Declarations) (env : Env) (literals : List Uid) (w : World) (lawfu
 
   -- ---- `==`
 
-  differ_by : (x y : TypedExpr) (o r : Option (List ℕ)) → entity_name (ty x) ≡ o → entity_name (ty y) ≡ r → (is_some o && is_some r) ≡ true → is_some (join (ty x) (ty y)) ≡ false → (m n : Value) → IsOf w (ty x) m → IsOf w (ty y) n → is_same m n ≡ false
-  differ_by x y (Some t) (Some u) xt yu k apart m n h g =
+  differ_by : (x y : TypedExpr) (o r : Option (List ℕ)) → entity_name (ty x) ≡ o → entity_name (ty y) ≡ r → are_apart o r ≡ true → (m n : Value) → IsOf w (ty x) m → IsOf w (ty y) n → is_same m n ≡ false
+  differ_by x y (Some t) (Some u) xt yu apart m n h g =
       let p = entity_of w t (ty x) m xt h in
       let q = entity_of w u (ty y) n yu g in
-      entities-differ t u (ty x) (ty y) m n p.0 q.0 xt yu apart p.1.entity p.1.named q.1.entity q.1.named (is_same m n) refl
-  differ_by x y (Some t) None xt yu k apart m n h g = absurd cc
-  differ_by x y None r xt yu k apart m n h g = absurd cc
+      entities-differ t u m n p.0 q.0 (not_is_true (bytes_eq t u) apart) p.1.entity p.1.named q.1.entity q.1.named (is_same m n) refl
+  differ_by x y (Some t) None xt yu apart m n h g = absurd cc
+  differ_by x y None r xt yu apart m n h g = absurd cc
 
   two_compared : (place : Place) (x y : TypedExpr) → IfOk (compared place (ty x) (ty y)) (TwoSound w Equal x y)
   two_compared place x y =
       in_either (is_some (join (ty x) (ty y))) _ _ (TwoSound w Equal x y)
       (λ j m n h g. any_bool w (is_same m n))
-      (λ j. in_either (are_entities (ty x) (ty y)) _ _ (TwoSound w Equal x y)
-      (λ e m n h g. of_Bool w types.False (is_same m n) (subst (Fits types.False) (sym (differ_by x y (entity_name (ty x)) (entity_name (ty y)) refl refl e j m n h g)) false_fits))
+      (λ j. in_either (are_apart (entity_name (ty x)) (entity_name (ty y))) _ _ (TwoSound w Equal x y)
+      (λ e m n h g. of_Bool w types.False (is_same m n) (subst (Fits types.False) (sym (differ_by x y (entity_name (ty x)) (entity_name (ty y)) refl refl e m n h g)) false_fits))
       (λ e. tt))
 
   equal_sound : (known : Capabilities) (place : Place) (a b : Expr) (x y : TypedExpr) (l k : Option Literal) → literal_of a ≡ l → literal_of b ≡ k → IfOk (equal_by place l k (ty x) (ty y)) (BinarySound known Equal a b x y)

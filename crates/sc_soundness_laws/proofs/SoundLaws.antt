@@ -4,6 +4,7 @@ use Rattle.std.specs.List.{AllByRecursion}
 use Rattle.sc_lists.specs.declared.fault.Fault.{Fault}
 use Rattle.sc_lists.specs.declared.fault.Fault.TheVariants.{Told, NoMemory}
 use Rattle.sc_lists.specs.Told.{Gives}
+use Rattle.sc_lists.proofs.ListLaws.{all_weaker}
 use Rattle.sc_ast.specs.declared.expr.Expr.{Expr, Expr-F, roll-Expr, map-Expr, ind-Expr}
 use Rattle.sc_ast.specs.declared.expr.Expr.TheOpen as e
 use Rattle.sc_ast.specs.declared.expr.Expr.TheVariants as expr
@@ -20,14 +21,16 @@ use Rattle.sc_names.specs.declared.uid.Uid.{Uid}
 use Rattle.sc_schema.specs.declared.declarations.Env.{Env}
 use Rattle.sc_schema.specs.declared.ty.Ty.{Ty}
 use Rattle.sc_schema.specs.declared.ty.Ty.TheVariants as types
-use Rattle.sc_schema.specs.Declarations.{Declarations, context_of}
+use Rattle.sc_schema.specs.Declarations.{Declarations, choices_of, kind_of, context_of}
 use Rattle.sc_schema.specs.Lawful.{IsLawful}
 use Rattle.sc_values.specs.declared.value.Value.{Value}
 use Rattle.sc_values.specs.declared.value.Value.TheVariants as value
 use Rattle.sc_values.specs.Records.{Fields}
 use Rattle.sc_world.specs.declared.world.World.{World}
+use Rattle.sc_world.specs.Choices.{is_choice, IsChoice}
 use Rattle.sc_world.specs.Conforms.{conforms}
-use Rattle.sc_world.specs.WellFormed.{IsStored, IsWellFormed}
+use Rattle.sc_world.specs.WellFormed.{Entry, HasChoices, IsStored, IsWellFormed}
+use Rattle.sc_world.proofs.FillLaws.{of_key}
 use Rattle.sc_eval.specs.declared.error.EvalError.{EvalError}
 use Rattle.sc_eval.specs.Outcomes.{Outcome, ◌>>=◌}
 use Rattle.sc_eval.specs.Collections.{set_value, record_value}
@@ -63,11 +66,20 @@ module _ (s : Declarations) (env : Env) (literals : List Uid) (w : World) (lawfu
 
   -- ---- literals and variables
 
-  literal_of : (l : Literal) → AreStored (literal_uids l) → IsOf w (literal_type l) (literal_value l)
+  -- an entity that is stored is a choice, where its type is enumerated
+  choice_of : (name : List ℕ) (u : Uid) → u.type_name ≡ name → IsStored w.store u → IsTrue (is_choice (choices_of s name) u.id)
+  choice_of name u named stored =
+      subst (λ (n : List ℕ). IsTrue (is_choice (choices_of s n) u.id)) named
+      (of_key (IsChoice s) u w.store (all_weaker (HasChoices s) (λ (x : Entry). IsChoice s x.0) (λ x h. h.uid) w.store well.choices) stored)
+
+  entity_of_kind : (name : List ℕ) (u : Uid) → u.type_name ≡ name → IsStored w.store u → IsOf w (types.Entity (kind_of s name)) (value.Entity u)
+  entity_of_kind name u named stored = of_Entity w (kind_of s name) u named (choice_of name u named stored) stored
+
+  literal_of : (l : Literal) → AreStored (literal_uids l) → IsOf w (literal_type s l) (literal_value l)
   literal_of (literal.Bool b) h = of_Bool w _ b (truth_fits b)
   literal_of (literal.Long n) h = of_Long w n
   literal_of (literal.String text) h = of_String w text
-  literal_of (literal.Entity u) h = of_Entity w u.type_name u refl h.0
+  literal_of (literal.Entity u) h = entity_of_kind u.type_name u refl h.0
 
   context_of_type : (o : Option Ty) (x : Value) → IsSomeAnd o (λ type. IsOf w type x) → IsOf w (unwrap_or o (types.Record [])) x
   context_of_type (Some type) x h = h
@@ -78,9 +90,9 @@ module _ (s : Declarations) (env : Env) (literals : List Uid) (w : World) (lawfu
   context_is None h = absurd h
 
   variable_of : (x : Variable) → IsOf w (variable_type s env x) (variable_value x w.request)
-  variable_of Principal = of_Entity w env.principal w.request.principal well.request.principal well.closed.principal
-  variable_of Action = of_Entity w env.action.type_name w.request.action (ap (λ (u : Uid). u.type_name) well.request.action) well.closed.action
-  variable_of Resource = of_Entity w env.resource w.request.resource well.request.resource well.closed.resource
+  variable_of Principal = entity_of_kind env.principal w.request.principal well.request.principal well.closed.principal
+  variable_of Action = entity_of_kind env.action.type_name w.request.action (ap (λ (u : Uid). u.type_name) well.request.action) well.closed.action
+  variable_of Resource = entity_of_kind env.resource w.request.resource well.request.resource well.closed.resource
   variable_of Context = context_of_type (context_of s env.action) (value.Record w.request.context) (context_is (context_of s env.action) well.request.context)
 
   -- ---- sets and records
@@ -154,8 +166,8 @@ module _ (s : Declarations) (env : Env) (literals : List Uid) (w : World) (lawfu
       gives_as w (typed.Record place (record_type xs) xs) (record_type xs) [] (field_values ks >>= λ vs. Ok (record_value vs)) (type_of_Record place (record_type xs) xs)
       (follows (AreFieldsOf w xs) (IsOf w (record_type xs)) (field_values ks) _ (g held) λ vs h. record_of w xs vs h) (λ k. tt)
 
-  literal_sound : (place : Place) (l : Literal) → AreStored (literal_uids l) → (known : Capabilities) → IfOk (gives (literal_typed place l) []) (SoundAs w known (Ok (literal_value l)))
-  literal_sound place l stored known held = gives_as w (literal_typed place l) (literal_type l) [] (Ok (literal_value l)) (type_of_Literal place (literal_type l) l) (literal_of l stored) (λ k. tt)
+  literal_sound : (place : Place) (l : Literal) → AreStored (literal_uids l) → (known : Capabilities) → IfOk (gives (literal_typed s place l) []) (SoundAs w known (Ok (literal_value l)))
+  literal_sound place l stored known held = gives_as w (literal_typed s place l) (literal_type s l) [] (Ok (literal_value l)) (type_of_Literal place (literal_type s l) l) (literal_of l stored) (λ k. tt)
 
   variable_sound : (place : Place) (x : Variable) (known : Capabilities) → IfOk (gives (typed.Variable place (variable_type s env x) x) []) (SoundAs w known (Ok (variable_value x w.request)))
   variable_sound place x known held =
@@ -210,7 +222,7 @@ module _ (s : Declarations) (env : Env) (literals : List Uid) (w : World) (lawfu
   rows (e.Access place a name) h =
       by_construct (expr.Access place a.0 name) _ (accessed s place name (P a)) _ (rolls-Access place a.0 name) (construct.typing_Access s env place a.0 name) (evaluated.eval_Access place a.0 name w) (accessed_sound w s env literals lawful well place name (P a) (a.1 h))
   rows (e.Literal place l) h =
-      by_construct (expr.Literal place l) _ (λ known. gives (literal_typed place l) []) _ (rolls-Literal place l) (construct.typing_Literal s env place l) (evaluated.eval_Literal place l w) (literal_sound place l h)
+      by_construct (expr.Literal place l) _ (λ known. gives (literal_typed s place l) []) _ (rolls-Literal place l) (construct.typing_Literal s env place l) (evaluated.eval_Literal place l w) (literal_sound place l h)
   rows (e.Variable place x) h =
       by_construct (expr.Variable place x) _ (λ known. gives (typed.Variable place (variable_type s env x) x) []) _ (rolls-Variable place x) (construct.typing_Variable s env place x) (evaluated.eval_Variable place x w) (variable_sound place x)
   rows (e.Set place ks) h =

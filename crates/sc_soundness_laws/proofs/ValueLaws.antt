@@ -1,10 +1,12 @@
 -- Values by their types.
 use Rattle.std.proofs.Common.{◌≡◌, ℕ, ℤ, List, [], ◌∷◌, Bool, true, false, if◌then◌else◌, IsTrue, Some, Result, Ok, Err, refl, sym, ap, subst, ◌∙◌}
 use Rattle.std.specs.List.{AllByRecursion, list_all}
+use Rattle.std.specs.Str.{bytes_eq}
 use Rattle.std.proofs.lemmas.Slice.Eq.{bytes_eq-Decides}
-use Rattle.std.proofs.lemmas.Bool.{and_parts}
+use Rattle.std.proofs.lemmas.Bool.{and_from, and_parts}
 use Rattle.sc_ip.specs.declared.ip.Ip.{Ip}
 use Rattle.sc_names.specs.declared.uid.Uid.{Uid}
+use Rattle.sc_schema.specs.declared.ty.EntityKind.{EntityKind}
 use Rattle.sc_schema.specs.declared.ty.Ty.{Ty, Ty-F, out-Ty, roll-Ty, map-Ty, fold_out-Ty, fold-roll-Ty}
 use Rattle.sc_schema.specs.declared.ty.Ty.TheVariants as types
 use Rattle.sc_schema.specs.declared.ty.Ty.TheVariants.{rolls-True, rolls-False, rolls-Bool, rolls-Long, rolls-String, rolls-Decimal, rolls-Ip, rolls-Entity}
@@ -16,6 +18,7 @@ use Rattle.sc_values.specs.declared.value.Value.TheOpen as v
 use Rattle.sc_values.proofs.EveryLaws as every
 use Rattle.sc_values.proofs.OutLaws.{out_Bool, out_Long, out_String, out_Entity, out_Set, out_Decimal, out_Ip}
 use Rattle.sc_world.specs.declared.world.World.{World}
+use Rattle.sc_world.specs.Choices.{is_choice}
 use Rattle.sc_world.specs.Conforms.{Test, conforms, conforms_step, is_truth}
 use Rattle.sc_world.specs.Conforms as conform
 use Rattle.sc_world.specs.WellFormed.{IsStored, NamesStored, NamesStoredLevel}
@@ -78,9 +81,9 @@ pub ip_value : (z : Value-F Value) → IsTrue (conform.is_ip z) → (a : Ip) × 
 ip_value (v.Ip a) h = (a, refl)
 ip_value _ h = absurd cc
 
-entity_value : (name : List ℕ) (z : Value-F Value) → IsTrue (conform.is_entity_of name z) → (u : Uid) × (z ≡ v.Entity u) × (u.type_name ≡ name)
-entity_value name (v.Entity u) h = (u, refl, (bytes_eq-Decides u.type_name name).0 h)
-entity_value name _ h = absurd cc
+entity_value : (kind : EntityKind) (z : Value-F Value) → IsTrue (conform.is_entity_of kind z) → (u : Uid) × (z ≡ v.Entity u) × (u.type_name ≡ kind.name)
+entity_value kind (v.Entity u) h = (u, refl, (bytes_eq-Decides u.type_name kind.name).0 (and_parts (bytes_eq u.type_name kind.name) (is_choice kind.choices u.id) h).0)
+entity_value kind _ h = absurd cc
 
 set_value : (test : Test) (z : Value-F Value) → IsTrue (conform.is_set_of test z) → (xs : List Value) × (z ≡ v.Set xs) × IsTrue (list_all test xs)
 set_value test (v.Set xs) h = (xs, refl, h)
@@ -163,9 +166,9 @@ module _ (w : World) where
     stored = every.every_Ip (NamesStoredLevel w.store) a tt;
   }
 
-  pub of_Entity : (name : List ℕ) (u : Uid) → u.type_name ≡ name → IsStored w.store u → IsOf w (types.Entity name) (value.Entity u)
-  of_Entity name u is h = record {
-    conforming = conforms-roll (types.Entity name) (t.Entity name) (rolls-Entity name) (value.Entity u) ∙ ap (conform.is_entity_of name) (out_Entity u) ∙ (bytes_eq-Decides u.type_name name).1 is;
+  pub of_Entity : (kind : EntityKind) (u : Uid) → u.type_name ≡ kind.name → IsTrue (is_choice kind.choices u.id) → IsStored w.store u → IsOf w (types.Entity kind) (value.Entity u)
+  of_Entity kind u is chosen h = record {
+    conforming = conforms-roll (types.Entity kind) (t.Entity kind) (rolls-Entity kind) (value.Entity u) ∙ ap (conform.is_entity_of kind) (out_Entity u) ∙ and_from _ _ ((bytes_eq-Decides u.type_name kind.name).1 is) chosen;
     stored = every.every_Entity (NamesStoredLevel w.store) u h;
   }
 
@@ -207,7 +210,7 @@ module _ (w : World) where
     pub stored : IsStored w.store u
 
   entity_at : (name : List ℕ) (y : Ty-F Ty) (x : Value) → entity_name_in y ≡ Some name → IsTrue (fits y x) → (u : Uid) × (out-Value x ≡ v.Entity u) × (u.type_name ≡ name)
-  entity_at name (t.Entity n) x k h = let same : n ≡ name = cc in let p = entity_value n (out-Value x) h in (p.0, p.1, p.2 ∙ same)
+  entity_at name (t.Entity n) x k h = let same : n.name ≡ name = cc in let p = entity_value n (out-Value x) h in (p.0, p.1, p.2 ∙ same)
   entity_at name _ x k h = absurd cc
 
   pub entity_of : (name : List ℕ) (type : Ty) (x : Value) → entity_name type ≡ Some name → IsOf w type x → (u : Uid) × IsEntityOf name x u

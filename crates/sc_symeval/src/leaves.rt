@@ -54,7 +54,7 @@ fn written(setting: &Setting<'_>, terms: &mut Terms, literal: &Written) -> Resul
     }
 }
 
-/// An entity that is written. Beside an action stand the declared ones of its type.
+/// An entity that is written. Beside it stand those that its type lists.
 fn entity(setting: &Setting<'_>, terms: &mut Terms, uid: &Uid) -> Result<u64, AllocError>
     ensures ok { IfOk result (λ n. StandsFor terms.new n (entity_term setting.now.schema.now uid.now)) }
     ensures kept { Keeps terms.old terms.new }

@@ -199,7 +199,7 @@ module _ (given : Given) (soundness : Soundness) (law : LiteralLaw) (s : Declara
   worth : (a : Expr) (l : Literal) → literal_of a ≡ Some l → eval a w ≡ Ok (literal_value l)
   worth a l e = literal-eval a l w e
 
-  written_as : (a : Expr) (known : Capabilities) (x : Typed) → Derives s env a known x → (l : Literal) → literal_of a ≡ Some l → (p : Place) × (x.expr ≡ literal_typed p l)
+  written_as : (a : Expr) (known : Capabilities) (x : Typed) → Derives s env a known x → (l : Literal) → literal_of a ≡ Some l → (p : Place) × (x.expr ≡ literal_typed s p l)
   written_as a known x d l e = (expr_place a, ap (λ (v : Typed). v.expr) (law s env a known x l e d))
 
   -- ---- `in` that is decided
@@ -378,9 +378,9 @@ module _ (given : Given) (soundness : Soundness) (law : LiteralLaw) (s : Declara
         let whole = sound z known u uids held (of_in_decided z known u p a b x answer at r d is) in
         let value_is = evaluated.eval_Binary p In a b w
         ∙ ap (λ (o : Outcome). o >>= λ m. eval b w >>= λ n. is_in w m n >>= of_bool) k.first_is ∙ ap (λ (o : Outcome). o >>= λ n. is_in w k.first n >>= of_bool) k.second_is in
-        let typed_is = ap ty_of is ∙ type_told _ _ (type_of_Binary p (truth answer) In x.expr (leaves b)) in
+        let typed_is = ap ty_of is ∙ type_told _ _ (type_of_Binary p (truth answer) In x.expr (leaves s b)) in
         let one = told_truth answer _ (subst (λ (o : Outcome). OrOverflows (IsOf w (truth answer)) o) (ap (λ (y : Expr). eval y w) at ∙ value_is) (subst (λ (type : Ty). OrOverflows (IsOf w type) (eval z w)) typed_is whole.outcome)) (in_types k.first k.second) in
-        row z _ u _ _ _ at is (coded.code_Binary s env p (truth answer) In x.expr (leaves b) ∙ decided_code _ x.expr (leaves b) _ _ (decided_told s law env a b known x answer d r) ∙ ap constant (truth_told answer)) (value_is ∙ one) (constant_agrees w answer)
+        row z _ u _ _ _ at is (coded.code_Binary s env p (truth answer) In x.expr (leaves s b) ∙ decided_code _ x.expr (leaves s b) _ _ (decided_told s law env a b known x answer d r) ∙ ap constant (truth_told answer)) (value_is ∙ one) (constant_agrees w answer)
     told (of_in z known u p a b x y n m at r d q f g is) uids held =
         let us = both_uids a b (uids_at z _ (e.Binary p In a b) at (rolls-Binary p In a b) uids) in
         let open_it = never_decided s a b x.expr y.expr (erased s env a known x (given s env a known x r)) (erased s env b known y (given s env b known y q)) d in
@@ -417,11 +417,11 @@ module _ (given : Given) (soundness : Soundness) (law : LiteralLaw) (s : Declara
         let whole = sound z known u uids held (of_is_in_decided z known u p q a b t x n answer at r f g d is) in
         let value_is = evaluated.eval_IsIn p a t q b w ∙ named_in t.name (eval a w) (eval b w) (λ v i. named_is n t.name (ty x.expr) v f (of_value (ty x.expr) (eval a w) v h.outcome i) ∙ ap Ok g)
         ∙ ap (λ (o : Outcome). o >>= λ m. eval b w >>= λ c. is_in w m c >>= of_bool) k.first_is ∙ ap (λ (o : Outcome). o >>= λ c. is_in w k.first c >>= of_bool) k.second_is in
-        let typed_is = ap ty_of is ∙ type_told _ _ (type_of_IsIn p (truth answer) x.expr t q (leaves b)) in
+        let typed_is = ap ty_of is ∙ type_told _ _ (type_of_IsIn p (truth answer) x.expr t q (leaves s b)) in
         let one = told_truth answer _ (subst (λ (o : Outcome). OrOverflows (IsOf w (truth answer)) o) (ap (λ (y : Expr). eval y w) at ∙ value_is) (subst (λ (type : Ty). OrOverflows (IsOf w type) (eval z w)) typed_is whole.outcome)) (in_types k.first k.second) in
         let first = subst (Agrees w (code_of s env x.expr)) k.first_is (told r us.0 held) in
-        row z _ u _ _ _ at is (coded.code_IsIn s env p (truth answer) x.expr t q (leaves b) ∙ of_name s _ t x.expr (leaves b) _ _ (ap (is_of_type t.name) f ∙ g)
-        ∙ ap (and_code (is_code true (code_of s env x.expr))) (decided_code _ x.expr (leaves b) _ _ (decided_told s law env a b known x answer d r) ∙ ap constant (truth_told answer))) (value_is ∙ one)
+        row z _ u _ _ _ at is (coded.code_IsIn s env p (truth answer) x.expr t q (leaves s b) ∙ of_name s _ t x.expr (leaves s b) _ _ (ap (is_of_type t.name) f ∙ g)
+        ∙ ap (and_code (is_code true (code_of s env x.expr))) (decided_code _ x.expr (leaves s b) _ _ (decided_told s law env a b known x answer d r) ∙ ap constant (truth_told answer))) (value_is ∙ one)
         (behind_true (is_code true (code_of s env x.expr)) (constant answer) (of_bool answer) first.0 (truth_is true w) (constant_agrees w answer))
     told (of_is_in z known u p q a b t x y n m at r f g d i j is) uids held =
         let us = both_uids a b (uids_at z _ (e.IsIn p a t q b) at (rolls-IsIn p a t q b) uids) in
@@ -434,14 +434,14 @@ module _ (given : Given) (soundness : Soundness) (law : LiteralLaw) (s : Declara
     told (of_unary z known u p o a x type at r i is) uids held =
         let us = uids_at z _ (e.Unary p o a) at (rolls-Unary p o a) uids in
         row z _ u _ _ _ at is (coded.code_Unary s env p type o x.expr) (evaluated.eval_Unary p o a w)
-        (application_agrees w a x.expr _ (eval a w) (told r us held) (sound a known x us held r).outcome (written_as a known x r) (worth a) o type i)
+        (application_agrees w s a x.expr _ (eval a w) (told r us held) (sound a known x us held r).outcome (written_as a known x r) (worth a) o type i)
     told (of_access z known u p a name x fields f at r d g h is) uids held =
         let us = uids_at z _ (e.Access p a name) at (rolls-Access p a name) uids in
         let k = sound a known x us held r in
         row z _ u _ _ _ at is (coded.code_Access s env p f.2 x.expr name) (evaluated.eval_Access p a name w)
         (access_agrees s env literals w lawful well (ty x.expr) fields name f _ d g (sorted a known x r) (eval a w) (told r us held) (λ v i. of_value (ty x.expr) (eval a w) v k.outcome i))
     told (of_literal z known u p l at is) uids held =
-        row z _ u _ _ _ at is (coded.code_Literal s env p (literal_type l) l) (evaluated.eval_Literal p l w) (always_agrees w (written_term s l) (literal_value l) (literal_val l))
+        row z _ u _ _ _ at is (coded.code_Literal s env p (literal_type s l) l) (evaluated.eval_Literal p l w) (always_agrees w (written_term s l) (literal_value l) (literal_val l))
     told (of_variable z known u p v at is) uids held =
         row z _ u _ _ _ at is (coded.code_Variable s env p (variable_type s env v) v) (evaluated.eval_Variable p v w) (always_agrees w (variable_term s env v) (variable_value v w.request) (variable_val v))
     told (of_set z known u p members xs type at r f is) uids held =

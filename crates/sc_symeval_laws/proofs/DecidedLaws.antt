@@ -37,7 +37,7 @@ use Rattle.sc_laws.proofs.OptionLaws.{some_is}
 
 -- what is derived of a literal is that literal
 abbrev pub LiteralLaw : Type 0
-LiteralLaw = (s : Declarations) (env : Env) (x : Expr) (known : Capabilities) (t : Typed) (l : Literal) → literal_of x ≡ Some l → Derives s env x known t → t ≡ made (literal_typed (expr_place x) l) []
+LiteralLaw = (s : Declarations) (env : Env) (x : Expr) (known : Capabilities) (t : Typed) (l : Literal) → literal_of x ≡ Some l → Derives s env x known t → t ≡ made (literal_typed s (expr_place x) l) []
 
 -- a typed literal, one level deep
 pub out_literal : (x : TypedExpr) (p : Place) (type : Ty) (l : Literal) → x ≡ typed.Literal p type l → out-TypedExpr x ≡ t.Literal p type l
@@ -62,32 +62,33 @@ uid_is x u h = uid_literal (literal_of x) u h
 literal_uid : (x : TypedExpr) (p : Place) (type : Ty) (l : Literal) → x ≡ typed.Literal p type l → is_some (uid_in l) ≡ true → is_uid x ≡ true
 literal_uid x p type l is h = ap (λ (y : TypedExpr-F TypedExpr). is_some (uid_at y)) (out_literal x p type l is) ∙ h
 
-leaf_uid : (x : Expr) (y : Expr-F Expr) (u : Uid) → option_and_then uid_in (literal_in y) ≡ Some u → is_uid (leaf_in x y) ≡ true
-leaf_uid x (e.Literal p l) u h = literal_uid (literal_typed p l) p (literal_type l) l refl (ap is_some h)
-leaf_uid x _ u h = absurd cc
+leaf_uid : (s : Declarations) (x : Expr) (y : Expr-F Expr) (u : Uid) → option_and_then uid_in (literal_in y) ≡ Some u → is_uid (leaf_in s x y) ≡ true
+leaf_uid s x (e.Literal p l) u h = literal_uid (literal_typed s p l) p (literal_type s l) l refl (ap is_some h)
+leaf_uid s x _ u h = absurd cc
 
-some_uids : (x : Expr) (xs : List Expr) (us : List Uid) (o : Option Uid) (r : Option (List Uid)) → uid_of x ≡ o → option_and_then (λ u. option_map (λ vs. u ∷ vs) r) o ≡ Some us → ((vs : List Uid) → r ≡ Some vs → are_uids (map leaf xs) ≡ true)
-    → are_uids (map leaf (x ∷ xs)) ≡ true
-some_uids x xs us (Some u) (Some vs) at h later = ap (λ (b : Bool). b && are_uids (map leaf xs)) (leaf_uid x (out-Expr x) u at) ∙ later vs refl
-some_uids x xs us (Some u) None at h later = absurd cc
-some_uids x xs us None r at h later = absurd cc
+some_uids : (s : Declarations) (x : Expr) (xs : List Expr) (us : List Uid) (o : Option Uid) (r : Option (List Uid)) → uid_of x ≡ o → option_and_then (λ u. option_map (λ vs. u ∷ vs) r) o ≡ Some us
+    → ((vs : List Uid) → r ≡ Some vs → are_uids (map (leaf s) xs) ≡ true) → are_uids (map (leaf s) (x ∷ xs)) ≡ true
+some_uids s x xs us (Some u) (Some vs) at h later = ap (λ (b : Bool). b && are_uids (map (leaf s) xs)) (leaf_uid s x (out-Expr x) u at) ∙ later vs refl
+some_uids s x xs us (Some u) None at h later = absurd cc
+some_uids s x xs us None r at h later = absurd cc
 
-leaves_uids : (xs : List Expr) (us : List Uid) → uids_of xs ≡ Some us → are_uids (map leaf xs) ≡ true
-leaves_uids [] us h = refl
-leaves_uids (x ∷ xs) us h = some_uids x xs us (uid_of x) (uids_of xs) refl h (leaves_uids xs)
+leaves_uids : (s : Declarations) (xs : List Expr) (us : List Uid) → uids_of xs ≡ Some us → are_uids (map (leaf s) xs) ≡ true
+leaves_uids s [] us h = refl
+leaves_uids s (x ∷ xs) us h = some_uids s x xs us (uid_of x) (uids_of xs) refl h (leaves_uids s xs)
 
-members_uids : (xs : List Expr) (us : List Uid) → some_uids_of xs ≡ Some us → are_some_uids (map leaf xs) ≡ true
-members_uids [] us h = absurd cc
-members_uids (x ∷ xs) us h = leaves_uids (x ∷ xs) us h
+members_uids : (s : Declarations) (xs : List Expr) (us : List Uid) → some_uids_of xs ≡ Some us → are_some_uids (map (leaf s) xs) ≡ true
+members_uids s [] us h = absurd cc
+members_uids s (x ∷ xs) us h = leaves_uids s (x ∷ xs) us h
 
-leaves_group : (b : Expr) (y : Expr-F Expr) (us : List Uid) → group_in y ≡ Some us → is_group_in (out-TypedExpr (leaves_in b y)) ≡ true
-leaves_group b (e.Literal p (literal.Entity u)) us h = ap is_group_in (out_literal (literal_typed p (literal.Entity u)) p (literal_type (literal.Entity u)) (literal.Entity u) refl)
-leaves_group b (e.Literal p (literal.Bool c)) us h = absurd cc
-leaves_group b (e.Literal p (literal.Long n)) us h = absurd cc
-leaves_group b (e.Literal p (literal.String text)) us h = absurd cc
-leaves_group b (e.Set p members) us h =
-    ap is_group_in (out_set (typed.Set p (types.Set (first_type (map leaf members))) (map leaf members)) p (types.Set (first_type (map leaf members))) (map leaf members) refl) ∙ members_uids members us h
-leaves_group b _ us h = absurd cc
+leaves_group : (s : Declarations) (b : Expr) (y : Expr-F Expr) (us : List Uid) → group_in y ≡ Some us → is_group_in (out-TypedExpr (leaves_in s b y)) ≡ true
+leaves_group s b (e.Literal p (literal.Entity u)) us h = ap is_group_in (out_literal (literal_typed s p (literal.Entity u)) p (literal_type s (literal.Entity u)) (literal.Entity u) refl)
+leaves_group s b (e.Literal p (literal.Bool c)) us h = absurd cc
+leaves_group s b (e.Literal p (literal.Long n)) us h = absurd cc
+leaves_group s b (e.Literal p (literal.String text)) us h = absurd cc
+leaves_group s b (e.Set p members) us h =
+    let typed_members = map (leaf s) members in
+    ap is_group_in (out_set (typed.Set p (types.Set (first_type typed_members)) typed_members) p (types.Set (first_type typed_members)) typed_members refl) ∙ members_uids s members us h
+leaves_group s b _ us h = absurd cc
 
 -- ---- texts that are written
 
@@ -103,9 +104,9 @@ pub text_is : (x : Expr) (text : List ℕ) → text_of x ≡ Some text → liter
 text_is x text h = text_literal (literal_of x) text h
 
 -- what a typed text spells
-pub spelled_is : {A : Type 0} (kind : A → Constant) (read : List ℕ → Option A) (x : TypedExpr) (p : Place) (text : List ℕ) (y : A) → x ≡ literal_typed p (literal.String text) → read text ≡ Some y → spelled kind read x ≡ Some (kind y)
-spelled_is kind read x p text y is r =
-    ap (λ (z : TypedExpr-F TypedExpr). option_map kind (option_and_then read (text_at z))) (out_literal x p (literal_type (literal.String text)) (literal.String text) is) ∙ ap (option_map kind) r
+pub spelled_is : {A : Type 0} (kind : A → Constant) (read : List ℕ → Option A) (s : Declarations) (x : TypedExpr) (p : Place) (text : List ℕ) (y : A) → x ≡ literal_typed s p (literal.String text) → read text ≡ Some y → spelled kind read x ≡ Some (kind y)
+spelled_is kind read s x p text y is r =
+    ap (λ (z : TypedExpr-F TypedExpr). option_map kind (option_and_then read (text_at z))) (out_literal x p (literal_type s (literal.String text)) (literal.String text) is) ∙ ap (option_map kind) r
 
 -- ---- what typing decides
 
@@ -136,14 +137,14 @@ module _ (s : Declarations) where
 
   module _ (law : LiteralLaw) (env : Env) where
     -- there the compiler decides too
-    pub decided_told : (a b : Expr) (known : Capabilities) (x : Typed) (r : Bool) → decided s a b ≡ Some r → Derives s env a known x → is_decided s x.expr (leaves b) ≡ true
+    pub decided_told : (a b : Expr) (known : Capabilities) (x : Typed) (r : Bool) → decided s a b ≡ Some r → Derives s env a known x → is_decided s x.expr (leaves s b) ≡ true
     decided_told a b known x r h d =
         let q = decided_of a b r h in
-        let is : x.expr ≡ literal_typed (expr_place a) (literal.Entity q.uid) = ap (λ (v : Typed). v.expr) (law s env a known x (literal.Entity q.uid) (uid_is a q.uid q.uid_is) d) in
-        let at : uid_at (out-TypedExpr x.expr) ≡ Some q.uid = ap uid_at (out_literal x.expr (expr_place a) (literal_type (literal.Entity q.uid)) (literal.Entity q.uid) is) in
-        (λ i. is_declared_action s (at i) && is_group_in (out-TypedExpr (leaves b)))
-        ∙ (λ i. q.declared i && is_group_in (out-TypedExpr (leaves b)))
-        ∙ leaves_group b (out-Expr b) q.uids q.uids_are
+        let is : x.expr ≡ literal_typed s (expr_place a) (literal.Entity q.uid) = ap (λ (v : Typed). v.expr) (law s env a known x (literal.Entity q.uid) (uid_is a q.uid q.uid_is) d) in
+        let at : uid_at (out-TypedExpr x.expr) ≡ Some q.uid = ap uid_at (out_literal x.expr (expr_place a) (literal_type s (literal.Entity q.uid)) (literal.Entity q.uid) is) in
+        (λ i. is_declared_action s (at i) && is_group_in (out-TypedExpr (leaves s b)))
+        ∙ (λ i. q.declared i && is_group_in (out-TypedExpr (leaves s b)))
+        ∙ leaves_group s b (out-Expr b) q.uids q.uids_are
 
 -- ---- where the compiler decides, typing does
 

@@ -1,16 +1,20 @@
 -- `==`: what it is compiled to agrees with whether two values are one.
 use Rattle.std.proofs.Common.{◌≡◌, ℕ, List, Bool, true, false, None, Ok, IsTrue, refl, ap, sym, subst, ◌∙◌}
 use Rattle.std.proofs.lemmas.Bool.{false_from_ne_true}
+use Rattle.std.specs.Str.{bytes_eq}
 use Rattle.std.proofs.lemmas.Slice.Eq.{bytes_eq-Decides}
+use Rattle.sc_laws.proofs.BoolLaws.{and_first}
 use Rattle.sc_ast.specs.declared.literal.Literal.{Literal}
 use Rattle.sc_ast.specs.declared.literal.Literal.TheVariants as literal
 use Rattle.sc_schema.specs.declared.ty.Ty.{Ty, Ty-F, out-Ty}
 use Rattle.sc_schema.specs.declared.ty.Ty.TheOpen as t
+use Rattle.sc_schema.specs.declared.ty.EntityKind.{EntityKind}
 use Rattle.sc_schema.specs.Declarations.{Declarations}
 use Rattle.sc_values.specs.declared.value.Value.{Value, Value-F, out-Value}
 use Rattle.sc_values.specs.declared.value.Value.TheOpen as v
 use Rattle.sc_values.proofs.OutLaws.{out_Bool, out_Long, out_String, out_Entity}
 use Rattle.sc_world.specs.declared.world.World.{World}
+use Rattle.sc_world.specs.Choices.{is_choice}
 use Rattle.sc_world.specs.Conforms.{Test, Shape, is_truth}
 use Rattle.sc_world.specs.Conforms as conform
 use Rattle.sc_eval.specs.Outcomes.{Outcome, ◌>>=◌, of_bool}
@@ -65,9 +69,9 @@ ip_unseen : (z : Value-F Value) → IsTrue (conform.is_ip z) → bool_seen z ≡
 ip_unseen (v.Ip n) h = refl
 ip_unseen _ h = absurd cc
 
-entity_unseen : (name : List ℕ) (z : Value-F Value) → IsTrue (conform.is_entity_of name z) → bool_seen z ≡ None
-entity_unseen name (v.Entity u) h = refl
-entity_unseen name _ h = absurd cc
+entity_unseen : (kind : EntityKind) (z : Value-F Value) → IsTrue (conform.is_entity_of kind z) → bool_seen z ≡ None
+entity_unseen kind (v.Entity u) h = refl
+entity_unseen kind _ h = absurd cc
 
 set_unseen : (test : Test) (z : Value-F Value) → IsTrue (conform.is_set_of test z) → bool_seen z ≡ None
 set_unseen test (v.Set xs) h = refl
@@ -85,7 +89,7 @@ unseen_at t.Long x e h = long_unseen (out-Value x) h
 unseen_at t.String x e h = string_unseen (out-Value x) h
 unseen_at t.Decimal x e h = decimal_unseen (out-Value x) h
 unseen_at t.Ip x e h = ip_unseen (out-Value x) h
-unseen_at (t.Entity name) x e h = entity_unseen name (out-Value x) h
+unseen_at (t.Entity kind) x e h = entity_unseen kind (out-Value x) h
 unseen_at (t.Set m) x e h = set_unseen _ (out-Value x) h
 unseen_at (t.Record fields) x e h = record_unseen _ (out-Value x) h
 
@@ -131,9 +135,10 @@ module _ (s : Declarations) where
   string_told (v.String n) h = refl
   string_told _ h = absurd cc
 
-  entity_told : (name : List ℕ) (z : Value-F Value) → IsTrue (conform.is_entity_of name z) → entity_sort s name ≡ told_sort z
-  entity_told name (v.Entity u) h = ap (entity_sort s) (sym ((bytes_eq-Decides u.type_name name).0 h))
-  entity_told name _ h = absurd cc
+  entity_told : (kind : EntityKind) (z : Value-F Value) → IsTrue (conform.is_entity_of kind z) → entity_sort s kind.name ≡ told_sort z
+  entity_told kind (v.Entity u) h =
+      ap (entity_sort s) (sym ((bytes_eq-Decides u.type_name kind.name).0 (and_first (bytes_eq u.type_name kind.name) (is_choice kind.choices u.id) h)))
+  entity_told kind _ h = absurd cc
 
   no_decimal : (Q : Type 0) (z : Value-F Value) → IsTrue (conform.is_decimal z) → is_plain z ≡ true → Q
   no_decimal Q (v.Decimal n) h p = absurd cc
@@ -159,7 +164,7 @@ module _ (s : Declarations) where
   sort_told t.String x h p = string_told (out-Value x) h
   sort_told t.Decimal x h p = no_decimal _ (out-Value x) h p
   sort_told t.Ip x h p = no_ip _ (out-Value x) h p
-  sort_told (t.Entity name) x h p = entity_told name (out-Value x) h
+  sort_told (t.Entity kind) x h p = entity_told kind (out-Value x) h
   sort_told (t.Set m) x h p = no_set _ _ (out-Value x) h p
   sort_told (t.Record fields) x h p = no_record _ _ (out-Value x) h p
 

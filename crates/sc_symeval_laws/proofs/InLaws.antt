@@ -253,12 +253,11 @@ module _ (s : Declarations) (env : Env) (literals : List Uid) (w : World) (well 
 
   type_met : (n u : List ℕ) (y : Ty) (z : Ty-F Ty) (t k : Tree) (a : Uid) (m x : Value) → out-Ty y ≡ z → group_in z ≡ Some u → IsOf w y x → m ≡ value.Entity a → a.type_name ≡ n → IsStored w.store a → val t w ≡ it m → val k w ≡ it x
       → (r : Bool) × (is_in w m x ≡ Ok r) × (val (in_type s n z t k) w ≡ yes r)
-  type_met n u y (t.Entity c) t_val k a m x at e h is named there g i =
-      let same : c ≡ u = cc in
-      let b = entity_of w c y x (ap entity_name_in at) h in (
+  type_met n u y (t.Entity kind) t_val k a m x at e h is named there g i =
+      let b = entity_of w kind.name y x (ap entity_name_in at) h in (
         list_any (is_or_in w a) (b.0 ∷ []),
         is_in-is m x a (b.0 ∷ []) is (ap entities_in (ap out-Value b.1.entity ∙ out_Entity b.0)),
-        one_val n c t_val k a b.0 (g ∙ ap it is) (i ∙ ap it b.1.entity) named b.1.named there ∙ ap yes (sym (or_false (is_or_in w a b.0))),
+        one_val n kind.name t_val k a b.0 (g ∙ ap it is) (i ∙ ap it b.1.entity) named b.1.named there ∙ ap yes (sym (or_false (is_or_in w a b.0))),
       )
   type_met n u y (t.Set mem) t_val k a m x at e h is named there g i =
       let b = set_of w mem y x (ap member_in at) h in

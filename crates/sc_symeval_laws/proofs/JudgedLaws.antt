@@ -14,6 +14,7 @@ use Rattle.sc_eval.specs.Written.{constants, HasProperConstants}
 use Rattle.sc_ip.specs.declared.ip.Ip.{Ip}
 use Rattle.sc_ip.specs.Addresses.{IsIp}
 use Rattle.sc_ip.specs.IpValue.{ip_of}
+use Rattle.sc_laws.proofs.BoolLaws.{and_first}
 use Rattle.sc_names.specs.declared.uid.Uid.{Uid}
 use Rattle.sc_names.specs.Uids.{text_cmp}
 use Rattle.sc_pattern.specs.declared.part.Part.{Part}
@@ -21,13 +22,13 @@ use Rattle.sc_schema.specs.declared.declarations.Action.{Action}
 use Rattle.sc_schema.specs.declared.declarations.Env.{Env}
 use Rattle.sc_schema.specs.declared.ty.Ty.{Ty}
 use Rattle.sc_schema.specs.declared.ty.Ty.TheVariants as types
-use Rattle.sc_schema.specs.Declarations.{Declarations, action, action_uids, context_of, is_action_type, entity_type, environment, environments_for, environments}
+use Rattle.sc_schema.specs.Declarations.{Declarations, action, action_uids, context_of, is_action_type, entity_type, declared_choices, environment, environments_for, environments}
 use Rattle.sc_schema.specs.Lawful.{IsLawful, IsEntityType}
 use Rattle.sc_schema.proofs.LookupLaws.{action_found}
 use Rattle.sc_sorts.specs.declared.sort.Sort.{Sort}
 use Rattle.sc_sorts.specs.declared.sort.Sort.TheVariants as sort
 use Rattle.sc_sorts.specs.Defaults.{is_option}
-use Rattle.sc_sorts.specs.Entities.{choices_of, entity_sort}
+use Rattle.sc_sorts.specs.Entities.{choices_of, IsListed, entity_sort}
 use Rattle.sc_sorts.specs.Inside.{SortFields}
 use Rattle.sc_sorts.specs.OfTypes.{sort_of}
 use Rattle.sc_sorts.proofs.EveryLaws.{in_Bool, in_Long, in_String, in_Decimal, in_Ip, in_Entity, in_Set, in_Option, in_Record}
@@ -39,6 +40,7 @@ use Rattle.sc_sorts.specs.declared.node.Leaf.TheVariants as leafs
 use Rattle.sc_typed.specs.declared.outcome.Typed.{Typed}
 use Rattle.sc_typed.specs.Capabilities.{Capabilities}
 use Rattle.sc_typed.specs.Outcomes.{ty}
+use Rattle.sc_typing.specs.Names.{is_known, has_choice}
 use Rattle.sc_typing.specs.Typing.{typing}
 use Rattle.sc_soundness_laws.proofs.ActingLaws.{acting-uids}
 use Rattle.sc_soundness_laws.proofs.ConditionLaws.{condition-uids}
@@ -48,6 +50,7 @@ use Rattle.sc_terms.specs.Joined.{all_of}
 use Rattle.sc_term_laws.specs.Judging.{IsTermOf, HasPlace, HaveSort, HaveFields}
 use Rattle.sc_term_laws.specs.Judging as judged
 use Rattle.sc_term_laws.specs.LawfulSorts.{AreNames, IsDeclared, IsSortLevel, IsSortOf, IsHeldSort}
+use Rattle.sc_term_laws.proofs.ChoicesLaws.{action_listed}
 use Rattle.sc_term_laws.proofs.JudgingLaws.{sort_is}
 use Rattle.sc_term_laws.proofs.SortsLawful.{lawful_action, declared_action, above_declared, attrs_lawful, tags_lawful, context_lawful, type_lawful}
 use Rattle.sc_constructs.specs.Objects.{context_sort}
@@ -166,8 +169,12 @@ module _ (made : Made) (s : Declarations) (env : Env) (written : List Uid) (sett
   declared_by false u e h = inl h
 
   uid_declared : (u : Uid) → IsNamed s written u → IsDeclared s u.type_name
-  uid_declared u (inl has) = declared_by (is_action_type s u.type_name) u refl (setting.declared u has)
+  uid_declared u (inl has) = declared_by (is_action_type s u.type_name) u refl (and_first (is_known s u) (has_choice (declared_choices s u.type_name) u.id) (setting.declared u has))
   uid_declared u (inr has) = declared_action s lawful u has
+
+  uid_written : (u : Uid) → IsNamed s written u → Contains written u ⊎ IsListed s u
+  uid_written u (inl has) = inl has
+  uid_written u (inr has) = inr (action_listed s u has)
 
   long_proper : (n : ℤ) → IsProper (value.Long n) → FitsSigned w64 n
   long_proper n h = subst IsProperLevel (out_Long n) (every_level IsProperLevel (value.Long n) h)
@@ -230,8 +237,8 @@ module _ (made : Made) (s : Declarations) (env : Env) (written : List Uid) (sett
     decimal_number = λ n p. record { term = judged.of_decimal_number n p; lawful_sort = decimal_sort };
     address = λ ip p. record { term = judged.of_address ip p; lawful_sort = ip_sort };
     address_text = λ text ip e. record { term = judged.of_address ip (made.address text ip e); lawful_sort = ip_sort };
-    uid = λ u p. record { term = judged.of_uid u p; lawful_sort = entity_lawful u.type_name (uid_declared u p) };
-    action = record { term = judged.of_uid env.action (inr action_named); lawful_sort = entity_lawful env.action.type_name (declared_action s lawful env.action action_named) };
+    uid = λ u p. record { term = judged.of_uid u (uid_written u p); lawful_sort = entity_lawful u.type_name (uid_declared u p) };
+    action = record { term = judged.of_uid env.action (inr (action_listed s env.action action_named)); lawful_sort = entity_lawful env.action.type_name (declared_action s lawful env.action action_named) };
     principal = record { term = judged.of_principal; lawful_sort = entity_lawful env.principal (inl place.principal) };
     resource = record { term = judged.of_resource; lawful_sort = entity_lawful env.resource (inl place.resource) };
     context = context_judged;

@@ -45,7 +45,7 @@ use Rattle.sc_schema.specs.declared.ty.Ty.{Ty, Ty-F, out-Ty, out-roll-Ty}
 use Rattle.sc_schema.specs.declared.ty.Ty.TheOpen as t
 use Rattle.sc_schema.specs.declared.ty.Ty.TheVariants as types
 use Rattle.sc_schema.specs.declared.ty.Ty.TheVariants.{rolls-True, rolls-False, rolls-Long, rolls-String, rolls-Decimal, rolls-Ip, rolls-Entity, rolls-Set as type_rolls-Set, rolls-Record as type_rolls-Record}
-use Rattle.sc_schema.specs.Declarations.{Declarations, attrs_of, tags_of, ancestor_types, context_of}
+use Rattle.sc_schema.specs.Declarations.{Declarations, attrs_of, tags_of, ancestor_types, context_of, kind_of}
 use Rattle.sc_schema.specs.Lawful.{IsLawful}
 use Rattle.sc_schema.proofs.LawfulLaws.{no_fields_lawful}
 use Rattle.sc_sorts.specs.declared.sort.Sort.{Sort}
@@ -463,9 +463,9 @@ module _ (s : Declarations) (env : Env) (Is : Sort → Tree → Type 0) (Proper 
   object_at type name f a fields (t.Record gs) e g h =
       let is : gs ≡ fields = cc in
       (fields_sorts s gs, h, attribute_sort gs name f (ap (attribute name) is ∙ g))
-  object_at type name f a fields (t.Entity n) e g h =
-      let is : unwrap_or (option_and_then record_fields (attrs_of s n)) [] ≡ fields = cc in
-      of_entity n name f a (attrs_of s n) (option_and_then record_fields (attrs_of s n)) refl refl (ap (attribute name) is ∙ g) h
+  object_at type name f a fields (t.Entity kind) e g h =
+      let is : unwrap_or (option_and_then record_fields (attrs_of s kind.name)) [] ≡ fields = cc in
+      of_entity kind.name name f a (attrs_of s kind.name) (option_and_then record_fields (attrs_of s kind.name)) refl refl (ap (attribute name) is ∙ g) h
   object_at type name f a fields _ e g h = absurd cc
 
   pub object_is : (type : Ty) (name : List ℕ) (f : Field) (a : Tree) (fields : List Field) → attributes s type ≡ Some fields → attribute name fields ≡ Some f → Is (sort_in s type) a → IsObjectTerm type name f a
@@ -572,7 +572,7 @@ module _ (s : Declarations) (env : Env) (Is : Sort → Tree → Type 0) (Proper 
       inside false e = kept.truth false
 
   in_type_is : (n m : List ℕ) (y : Ty-F Ty) (a b : Tree) → group_in y ≡ Some m → Is (entity_sort s n) a → Is (level s y) b → Is sort.Bool (objects.in_type s n y a b)
-  in_type_is n m (t.Entity u) a b e h g = in_one_is n u a b h g
+  in_type_is n m (t.Entity kind) a b e h g = in_one_is n kind.name a b h g
   in_type_is n m (t.Set mem) a b e h g =
       subst (λ (o : Option (List ℕ)). Is sort.Bool (objects.in_some_of s n o a b)) (sym e)
       (in_some_is n m a b h (subst (λ (k : Sort). Is (sort.Set k) b) (entity_type_sort s mem m e) g))
@@ -635,7 +635,7 @@ module _ (s : Declarations) (env : Env) (Is : Sort → Tree → Type 0) (Proper 
         moved sort.Long _ _ (sym (rolled_sort s types.Long t.Long rolls-Long)) (arithmetic_kept o _ i p.0 p.1)
     operation_kept known m n _ _ (of_literals l r e f) = of_truths _ _ (truth_boolean _) (equal_is (sort_in s (ty x)) (sort_in s (ty y)) a b (no_option s (ty x)) h g)
     operation_kept known m n _ _ (of_equal both e j) = of_truths _ _ boolean_Bool (equal_is (sort_in s (ty x)) (sort_in s (ty y)) a b (no_option s (ty x)) h g)
-    operation_kept known m n _ _ (of_apart i j l e f r) = of_truths _ _ boolean_False (equal_is (sort_in s (ty x)) (sort_in s (ty y)) a b (no_option s (ty x)) h g)
+    operation_kept known m n _ _ (of_apart i j l e f named r) = of_truths _ _ boolean_False (equal_is (sort_in s (ty x)) (sort_in s (ty y)) a b (no_option s (ty x)) h g)
     operation_kept known m n _ _ (of_contains element both c j) =
         let q = joined_sorts s element (ty y) both j in
         of_truths _ _ boolean_Bool (contains_is (sort_in s (ty y)) a b (moved _ _ a (set_type_sort s (ty x) element c ∙ ap sort.Set (q.0 ∙ sym q.1)) h) g)
@@ -654,7 +654,7 @@ module _ (s : Declarations) (env : Env) (Is : Sort → Tree → Type 0) (Proper 
 
   -- ---- one operand
 
-  module _ (m : Expr) (x : TypedExpr) (a : Code) (h : OperandOf x a) (written_as : (l : Literal) → literal_of m ≡ Some l → (p : Place) × (x ≡ literal_typed p l)) where
+  module _ (m : Expr) (x : TypedExpr) (a : Code) (h : OperandOf x a) (written_as : (l : Literal) → literal_of m ≡ Some l → (p : Place) × (x ≡ literal_typed s p l)) where
     boolean_code : (type : Ty) (c : Code) → is_boolean type ≡ true → AreTerms sort.Bool c → AreTerms (sort_in s type) c
     boolean_code type c e i = moved sort.Bool (sort_in s type) c (sym (boolean_sort s type e)) i
 
@@ -674,31 +674,35 @@ module _ (s : Declarations) (env : Env) (Is : Sort → Tree → Type 0) (Proper 
     application_kept _ _ (of_decimal text n e r) =
         let q = written_as (written.String text) (text_is m text e) in
         moved sort.Decimal _ _ (sym (rolled_sort s types.Decimal t.Decimal rolls-Decimal))
-        (subst (λ (o : _). AreTerms sort.Decimal (spelled_code o)) (sym (spelled_is literal.Decimal decimal_of x q.0 text n q.1 r))
+        (subst (λ (o : _). AreTerms sort.Decimal (spelled_code o)) (sym (spelled_is literal.Decimal decimal_of s x q.0 text n q.1 r))
         (always_is sort.Decimal _ (kept.decimal_number n ((decimal_of_decides text n).0 r).in_range)))
     application_kept _ _ (of_ip text ip e r) =
         let q = written_as (written.String text) (text_is m text e) in
         moved sort.Ip _ _ (sym (rolled_sort s types.Ip t.Ip rolls-Ip))
-        (subst (λ (o : _). AreTerms sort.Ip (spelled_code o)) (sym (spelled_is literal.Ip ip_of x q.0 text ip q.1 r))
+        (subst (λ (o : _). AreTerms sort.Ip (spelled_code o)) (sym (spelled_is literal.Ip ip_of s x q.0 text ip q.1 r))
         (always_is sort.Ip _ (kept.address_text text ip r)))
 
   -- ---- literals and variables
 
-  literal_kept : (l : Literal) → AllByRecursion Named (literal_uids l) → Proper (literal_value l) → Is (sort_in s (literal_type l)) (written_term s l)
+  -- the sort of a type of entities, with the choices that it has
+  entity_rolled : (name : List ℕ) → sort_in s (types.Entity (kind_of s name)) ≡ entity_sort s name
+  entity_rolled name = rolled_sort s (types.Entity (kind_of s name)) (t.Entity (kind_of s name)) (rolls-Entity (kind_of s name))
+
+  literal_kept : (l : Literal) → AllByRecursion Named (literal_uids l) → Proper (literal_value l) → Is (sort_in s (literal_type s l)) (written_term s l)
   literal_kept (written.Bool b) us c = subst (λ (k : Sort). Is k (truth_term b)) (sym (boolean_sort s (truth b) (truth_boolean b))) (kept.truth b)
   literal_kept (written.Long n) us c = subst (λ (k : Sort). Is k (literal_term (literal.Long n))) (sym (rolled_sort s types.Long t.Long rolls-Long)) (kept.number n c)
   literal_kept (written.String x) us c = subst (λ (k : Sort). Is k (literal_term (literal.String x))) (sym (rolled_sort s types.String t.String rolls-String)) (kept.text x c)
   literal_kept (written.Entity u) us c =
-      subst (λ (k : Sort). Is k (entity_term s u)) (sym (rolled_sort s (types.Entity u.type_name) (t.Entity u.type_name) (rolls-Entity u.type_name))) (kept.uid u us.0)
+      subst (λ (k : Sort). Is k (entity_term s u)) (sym (entity_rolled u.type_name)) (kept.uid u us.0)
 
   context_type : (o : Option Ty) → context_of s env.action ≡ o → sort_of (unwrap_or o (types.Record [])) ≡ sort_in s (unwrap_or o (types.Record []))
   context_type (Some type) e = sym (schema_sort s lawful type (context_lawful s lawful env.action type e))
   context_type None e = sym (schema_sort s lawful (types.Record []) (no_fields_lawful s).proper)
 
   variable_kept : (v : Variable) → Is (sort_in s (variable_type s env v)) (variable_term s env v)
-  variable_kept Principal = subst (λ (k : Sort). Is k (variable_term s env Principal)) (sym (rolled_sort s (types.Entity env.principal) (t.Entity env.principal) (rolls-Entity env.principal))) kept.principal
-  variable_kept Action = subst (λ (k : Sort). Is k (variable_term s env Action)) (sym (rolled_sort s (types.Entity env.action.type_name) (t.Entity env.action.type_name) (rolls-Entity env.action.type_name))) kept.action
-  variable_kept Resource = subst (λ (k : Sort). Is k (variable_term s env Resource)) (sym (rolled_sort s (types.Entity env.resource) (t.Entity env.resource) (rolls-Entity env.resource))) kept.resource
+  variable_kept Principal = subst (λ (k : Sort). Is k (variable_term s env Principal)) (sym (entity_rolled env.principal)) kept.principal
+  variable_kept Action = subst (λ (k : Sort). Is k (variable_term s env Action)) (sym (entity_rolled env.action.type_name)) kept.action
+  variable_kept Resource = subst (λ (k : Sort). Is k (variable_term s env Resource)) (sym (entity_rolled env.resource)) kept.resource
   variable_kept Context = subst (λ (k : Sort). Is k (variable_term s env Context)) (context_type (context_of s env.action) refl) kept.context
 
   -- ---- sets that are written
@@ -858,7 +862,7 @@ module _ (s : Declarations) (env : Env) (Is : Sort → Tree → Type 0) (Proper 
       at y h = absurd cc
 
   -- the literal that an operand is
-  literal_operand : (law : LiteralLaw) (a : Expr) (known : Capabilities) (x : Typed) → Derives s env a known x → (l : Literal) → literal_of a ≡ Some l → (p : Place) × (x.expr ≡ literal_typed p l)
+  literal_operand : (law : LiteralLaw) (a : Expr) (known : Capabilities) (x : Typed) → Derives s env a known x → (l : Literal) → literal_of a ≡ Some l → (p : Place) × (x.expr ≡ literal_typed s p l)
   literal_operand law a known x d l e = (expr_place a, ap (λ (v : Typed). v.expr) (law s env a known x l e d))
 
   module _ (law : LiteralLaw) where
@@ -907,8 +911,8 @@ module _ (s : Declarations) (env : Env) (Is : Sort → Tree → Type 0) (Proper 
           row u _ type _ is (coded.code_Binary s env p type o x.expr y.expr) (type_of_Binary p type o x.expr y.expr)
           (operation_kept x.expr y.expr _ _ (terms_of r us.0 cs.0) (terms_of q us.1 cs.1) known a b o type i)
       terms_of (of_in_decided z known u p a b x is_in at r d is) uids consts =
-          truth_row u _ (truth is_in) _ is (coded.code_Binary s env p (truth is_in) operator.In x.expr (leaves b)) (type_of_Binary p (truth is_in) operator.In x.expr (leaves b)) (truth_boolean is_in)
-          (decided_is (truth is_in) x.expr (leaves b) _ _ (decided_told s law env a b known x is_in d r))
+          truth_row u _ (truth is_in) _ is (coded.code_Binary s env p (truth is_in) operator.In x.expr (leaves s b)) (type_of_Binary p (truth is_in) operator.In x.expr (leaves s b)) (truth_boolean is_in)
+          (decided_is (truth is_in) x.expr (leaves s b) _ _ (decided_told s law env a b known x is_in d r))
       terms_of (of_in z known u p a b x y n m at r d q f g is) uids consts =
           let us = two_uids a b (uids_at z _ (e.Binary p operator.In a b) at (rolls-Binary p operator.In a b) uids) in
           let cs = two_constants a b (constants_at z _ (e.Binary p operator.In a b) at (rolls-Binary p operator.In a b) consts) in
@@ -937,8 +941,8 @@ module _ (s : Declarations) (env : Env) (Is : Sort → Tree → Type 0) (Proper 
       terms_of (of_is_in_decided z known u p q a b n x m is_in at r f g d is) uids consts =
           let us = two_uids a b (uids_at z _ (e.IsIn p a n q b) at (rolls-IsIn p a n q b) uids) in
           let cs = two_constants a b (constants_at z _ (e.IsIn p a n q b) at (rolls-IsIn p a n q b) consts) in
-          truth_row u _ (truth is_in) _ is (coded.code_IsIn s env p (truth is_in) x.expr n q (leaves b) ∙ of_name s _ n x.expr (leaves b) _ _ (ap (is_of_type n.name) f ∙ g)) (type_of_IsIn p (truth is_in) x.expr n q (leaves b)) (truth_boolean is_in)
-          (and_is _ _ (after_is _ sort.Bool _ _ (terms_of r us.0 cs.0) (kept.truth true)) (decided_is (truth is_in) x.expr (leaves b) _ _ (decided_told s law env a b known x is_in d r)))
+          truth_row u _ (truth is_in) _ is (coded.code_IsIn s env p (truth is_in) x.expr n q (leaves s b) ∙ of_name s _ n x.expr (leaves s b) _ _ (ap (is_of_type n.name) f ∙ g)) (type_of_IsIn p (truth is_in) x.expr n q (leaves s b)) (truth_boolean is_in)
+          (and_is _ _ (after_is _ sort.Bool _ _ (terms_of r us.0 cs.0) (kept.truth true)) (decided_is (truth is_in) x.expr (leaves s b) _ _ (decided_told s law env a b known x is_in d r)))
       terms_of (of_is_in z known u p q a b n x y m k at r f g d i j is) uids consts =
           let us = two_uids a b (uids_at z _ (e.IsIn p a n q b) at (rolls-IsIn p a n q b) uids) in
           let cs = two_constants a b (constants_at z _ (e.IsIn p a n q b) at (rolls-IsIn p a n q b) consts) in
@@ -954,7 +958,7 @@ module _ (s : Declarations) (env : Env) (Is : Sort → Tree → Type 0) (Proper 
           let cs = constants_at z _ (e.Access p a name) at (rolls-Access p a name) consts in
           row u _ f.2 _ is (coded.code_Access s env p f.2 x.expr name) (type_of_Access p f.2 x.expr name) (access_is (ty x.expr) name f _ fields d g (terms_of r us cs))
       terms_of (of_literal z known u p l at is) uids consts =
-          row u _ (literal_type l) _ is (coded.code_Literal s env p (literal_type l) l) (type_of_Literal p (literal_type l) l)
+          row u _ (literal_type s l) _ is (coded.code_Literal s env p (literal_type s l) l) (type_of_Literal p (literal_type s l) l)
           (always_is _ _ (literal_kept l (uids_at z _ (e.Literal p l) at (rolls-Literal p l) uids) (constants_at z _ (e.Literal p l) at (rolls-Literal p l) consts).0))
       terms_of (of_variable z known u p v at is) uids consts =
           row u _ (variable_type s env v) _ is (coded.code_Variable s env p (variable_type s env v) v) (type_of_Variable p (variable_type s env v) v) (always_is _ _ (variable_kept v))

@@ -68,14 +68,14 @@ module _ (s : Declarations) (env : Env) (literals : List Uid) (w : World) (lawfu
       let p = record_value _ (out-Value x) h in
       let own : record_in (val a w) ≡ p.0 = ap record_in g ∙ ap fields_seen p.1 in
       (ap (access_in name w) p.1 ∙ ap (λ (fs : Fields). or_missing (field name fs)) (sym own), ap (has_in name w) p.1 ∙ ap (λ (fs : Fields). Ok (is_some (field name fs))) (sym own))
-  seen_at (t.Entity n) type fields name a x at e h k g =
-      let u = entity_of w n type x (ap entity_name_in at) k in
+  seen_at (t.Entity kind) type fields name a x at e h k g =
+      let u = entity_of w kind.name type x (ap entity_name_in at) k in
       let d = data_of u.0 w.store u.1.stored in
       let out : out-Value x ≡ v.Entity u.0 = ap out-Value u.1.entity ∙ out_Entity u.0 in
       let there : entity_in (val a w) w ≡ Some d.0 = ap (λ (z : Val). entity_in z w) (g ∙ ap it u.1.entity) ∙ ap (λ z. stored (uid_seen z) w.store) (out_Entity u.0) ∙ d.1 in
-      let own : record_in (val (one (unary.Attributes (attributes_sort s n)) a) w) ≡ d.0.attrs =
-      ap record_in (one_is (unary.Attributes (attributes_sort s n)) a w)
-      ∙ ap (λ (o : Option EntityData). record_in (it (attributes_value (attributes_sort s n) o))) there
+      let own : record_in (val (one (unary.Attributes (attributes_sort s kind.name)) a) w) ≡ d.0.attrs =
+      ap record_in (one_is (unary.Attributes (attributes_sort s kind.name)) a w)
+      ∙ ap (λ (o : Option EntityData). record_in (it (attributes_value (attributes_sort s kind.name) o))) there
       ∙ ap fields_seen (out_Record d.0.attrs)
       in (
         ap (access_in name w) out ∙ ap (attr_of name) d.1 ∙ ap (λ (fs : Fields). or_missing (field name fs)) (sym own),

@@ -122,7 +122,7 @@ module _ (w : World) where
     operation_agrees _ _ (of_equal both g j) = compared λ u v i f hu hv apart.
         let q = joined_sorts s (ty x) (ty y) both j in
         never _ (sym (sorts_told _ _ (q.0 ∙ sym q.1)) ∙ apart)
-    operation_agrees _ _ (of_apart i j l e f g) = compared λ u v c d hu hv apart.
+    operation_agrees _ _ (of_apart i j l e f named g) = compared λ u v c d hu hv apart.
         let q = entity_of w i (ty x) u e hu in
         plain_differ s w (ty x) (ty y) u v hu hv (ap is_plain (ap out-Value q.1.entity ∙ out_Entity q.0)) apart
     operation_agrees _ _ (of_contains element both c j) = contains_agrees w a b o p (binary Contains w) h k λ u v e r.
@@ -139,7 +139,7 @@ module _ (w : World) where
 
   -- ---- one operand
 
-  module _ (m : Expr) (x : TypedExpr) (a : Code) (o : Outcome) (h : Agrees w a o) (first : OrOverflows (IsOf w (ty x)) o) (written_as : (l : Literal) → literal_of m ≡ Some l → (p : Place) × (x ≡ literal_typed p l))
+  module _ (s : Declarations) (m : Expr) (x : TypedExpr) (a : Code) (o : Outcome) (h : Agrees w a o) (first : OrOverflows (IsOf w (ty x)) o) (written_as : (l : Literal) → literal_of m ≡ Some l → (p : Place) × (x ≡ literal_typed s p l))
       (worth : (l : Literal) → literal_of m ≡ Some l → o ≡ Ok (literal_value l)) where
     truth_of : is_boolean (ty x) ≡ true → (r : Outcome) → OrOverflows (IsOf w (ty x)) r → agree.IsTruth w r
     truth_of b (Ok v) k = boolean (ty x) v b k.conforming
@@ -166,11 +166,11 @@ module _ (w : World) where
         let q = written_as (literal.String text) (text_is m text e) in
         let value_is : (o >>= unary Decimal) ≡ Ok (value.Decimal n) =
         ap (λ (z : Outcome). z >>= unary Decimal) (worth (literal.String text) (text_is m text e)) ∙ ap (λ z. text_in z >>= λ t. of_text value.Decimal (decimal_of t)) (out_String text) ∙ ap (of_text value.Decimal) r in
-        subst (λ (c : Code). Agrees w c (o >>= unary Decimal)) (sym (ap spelled_code (spelled_is nodes.Decimal decimal_of x q.0 text n q.1 r)))
+        subst (λ (c : Code). Agrees w c (o >>= unary Decimal)) (sym (ap spelled_code (spelled_is nodes.Decimal decimal_of s x q.0 text n q.1 r)))
         (subst (Agrees w (always (literal_term (nodes.Decimal n)))) (sym value_is) (always_agrees w _ (value.Decimal n) (leaf_is (leafs.Literal (nodes.Decimal n)) w)))
     application_agrees _ _ (of_ip text ip e r) =
         let q = written_as (literal.String text) (text_is m text e) in
         let value_is : (o >>= unary Ip) ≡ Ok (value.Ip ip) =
         ap (λ (z : Outcome). z >>= unary Ip) (worth (literal.String text) (text_is m text e)) ∙ ap (λ z. text_in z >>= λ t. of_text value.Ip (ip_of t)) (out_String text) ∙ ap (of_text value.Ip) r in
-        subst (λ (c : Code). Agrees w c (o >>= unary Ip)) (sym (ap spelled_code (spelled_is nodes.Ip ip_of x q.0 text ip q.1 r)))
+        subst (λ (c : Code). Agrees w c (o >>= unary Ip)) (sym (ap spelled_code (spelled_is nodes.Ip ip_of s x q.0 text ip q.1 r)))
         (subst (Agrees w (always (literal_term (nodes.Ip ip)))) (sym value_is) (always_agrees w _ (value.Ip ip) (leaf_is (leafs.Literal (nodes.Ip ip)) w)))

@@ -83,6 +83,7 @@ module _ (agree : ExprsAgree) (s : Declarations) (env : Env) (literals : List Ui
     transitive = well.transitive;
     acyclic = well.acyclic;
     actions = well.actions;
+    choices = well.choices;
     declared_actions = well.declared_actions;
     closed = record {
       principal = well.closed.principal;

@@ -1,34 +1,33 @@
 -- The sort of a typed expression, by the kind of its type.
-use Rattle.std.proofs.Common.{◌≡◌, ◌&&◌, ℕ, List, [], ◌∷◌, map, Bool, true, false, if◌then◌else◌, IsSome, Option, Some, None, option_map, refl, sym, ap, subst, ◌∙◌}
-use Rattle.std.specs.List.{AllByRecursion, list_any}
+use Rattle.std.proofs.Common.{◌≡◌, ◌&&◌, ℕ, List, [], ◌∷◌, map, Bool, true, false, if◌then◌else◌, Option, Some, None, option_map, refl, sym, ap, subst, ◌∙◌}
+use Rattle.std.specs.Cmp.Lexicographic.{pointwise}
+use Rattle.std.specs.List.{AllByRecursion}
 use Rattle.std.specs.Option.{option_and_then}
 use Rattle.std.specs.Str.{bytes_eq}
 use Rattle.std.proofs.lemmas.Bool.{and_parts}
 use Rattle.std.proofs.lemmas.Slice.Eq.{bytes_eq-Decides}
-use Rattle.sc_laws.proofs.BoolLaws.{or_first, or_second}
-use Rattle.sc_lists.proofs.ListLaws.{all_element}
-use Rattle.sc_schema.specs.declared.declarations.Action.{Action}
-use Rattle.sc_schema.specs.declared.declarations.EntityType.{EntityType}
+use Rattle.sc_schema.specs.declared.ty.EntityKind.{EntityKind}
 use Rattle.sc_schema.specs.declared.ty.Presence.{Presence}
 use Rattle.sc_schema.specs.declared.ty.Presence.TheVariants.{Required, Optional}
 use Rattle.sc_schema.specs.declared.ty.Ty.{Ty, Ty-F, out-Ty, roll-Ty, map-Ty, ind-Ty, fold_out-Ty, fold-roll-Ty}
 use Rattle.sc_schema.specs.declared.ty.Ty.TheVariants as types
 use Rattle.sc_schema.specs.declared.ty.Ty.TheVariants.{rolls-True, rolls-False, rolls-Bool, rolls-Long, rolls-String, rolls-Decimal, rolls-Ip, rolls-Entity, rolls-Set, rolls-Record}
 use Rattle.sc_schema.specs.declared.ty.Ty.TheOpen as t
-use Rattle.sc_schema.specs.Declarations.{Declarations, entity_type, is_action_type}
-use Rattle.sc_schema.specs.Lawful.{IsLawful, IsLawfulType, IsEntityType, IsTypeLevel, IsTypeOf}
+use Rattle.sc_schema.specs.Declarations.{Declarations}
+use Rattle.sc_schema.specs.Lawful.{IsLawful, IsTypeLevel, IsTypeOf}
 use Rattle.sc_schema.proofs.EveryTypeLaws.{every_level, every_member, every_field}
-use Rattle.sc_schema.proofs.LookupLaws.{type_declared}
 use Rattle.sc_sorts.specs.declared.sort.Sort.{Sort}
 use Rattle.sc_sorts.specs.declared.sort.Sort.TheVariants as sort
 use Rattle.sc_sorts.specs.declared.sort.Sort.{Sort-F, out-Sort}
 use Rattle.sc_sorts.specs.declared.sort.Sort.TheOpen as sorts
 use Rattle.sc_sorts.specs.Defaults.{is_option, is_option_level}
 use Rattle.sc_sorts.proofs.OutLaws as outer
-use Rattle.sc_sorts.specs.Entities.{of_type_name, choices_of, entity_sort}
+use Rattle.sc_sorts.specs.Entities.{choices_of, entity_sort}
 use Rattle.sc_sorts.specs.OfTypes as of_types
 use Rattle.sc_sorts.specs.OfTypes.{with_presence, sort_of}
-use Rattle.sc_typed.specs.Types.{Field, is_true_in, is_false_in, is_boolean, is_boolean_in, is_long, is_long_in, is_string, is_string_in, is_decimal, is_decimal_in, is_ip, is_ip_in, entity_name, entity_name_in, member, member_in, record_fields_in, only_if, same_name, same_presence, with_front, join_fields, join_step, join}
+use Rattle.sc_typed.specs.Types.{Field, is_true_in, is_false_in, is_boolean, is_boolean_in, is_long, is_long_in, is_string, is_string_in, is_decimal, is_decimal_in, is_ip, is_ip_in, entity_kind_in, entity_name, entity_name_in, member, member_in, record_fields_in, only_if, same_kind, same_presence, with_front, join_fields, join_step, join}
+use Rattle.sc_term_laws.proofs.ChoicesLaws.{kind_uids}
+use Rattle.sc_term_laws.proofs.DefaultTypeLaws.{no_action}
 use Rattle.sc_symeval_laws.specs.TypeSorts.{sort_step, sort_in}
 
 module _ (s : Declarations) where
@@ -77,7 +76,7 @@ module _ (s : Declarations) where
   ip_sort type h = sort_out type ∙ ip_at (out-Ty type) h
 
   entity_at : (y : Ty-F Ty) (n : List ℕ) → entity_name_in y ≡ Some n → step y ≡ entity_sort s n
-  entity_at (t.Entity name) n h = let same : name ≡ n = cc in ap (entity_sort s) same
+  entity_at (t.Entity kind) n h = let same : kind.name ≡ n = cc in ap (entity_sort s) same
   entity_at y n h = absurd cc
 
   pub entity_type_sort : (type : Ty) (n : List ℕ) → entity_name type ≡ Some n → sort_in s type ≡ entity_sort s n
@@ -105,7 +104,7 @@ module _ (s : Declarations) where
   no_option_at t.String = ap (is_option_level Sort) outer.out_String
   no_option_at t.Decimal = ap (is_option_level Sort) outer.out_Decimal
   no_option_at t.Ip = ap (is_option_level Sort) outer.out_Ip
-  no_option_at (t.Entity name) = ap (is_option_level Sort) (outer.out_Entity name (choices_of s name))
+  no_option_at (t.Entity kind) = ap (is_option_level Sort) (outer.out_Entity kind.name (choices_of s kind.name))
   no_option_at (t.Set m) = ap (is_option_level Sort) (outer.out_Set (sort_in s m))
   no_option_at (t.Record fields) = ap (is_option_level Sort) (outer.out_Record (fields_sorts fields))
 
@@ -124,7 +123,7 @@ module _ (s : Declarations) where
   truths_at t.String = ap of_truths outer.out_String
   truths_at t.Decimal = ap of_truths outer.out_Decimal
   truths_at t.Ip = ap of_truths outer.out_Ip
-  truths_at (t.Entity name) = ap of_truths (outer.out_Entity name (choices_of s name))
+  truths_at (t.Entity kind) = ap of_truths (outer.out_Entity kind.name (choices_of s kind.name))
   truths_at (t.Set m) = ap of_truths (outer.out_Set (sort_in s m))
   truths_at (t.Record fields) = ap of_truths (outer.out_Record (fields_sorts fields))
 
@@ -190,16 +189,16 @@ module _ (s : Declarations) where
   ip_row t.Ip u e = let is : types.Ip ≡ u = cc in both_named types.Ip u t.Ip rolls-Ip is
   ip_row _ u e = absurd cc
 
-  same_entity : (a n : List ℕ) (u : Ty) (b : Bool) → bytes_eq a n ≡ b → only_if b (types.Entity n) ≡ Some u → BothAre (t.Entity a) (t.Entity n) u
+  same_entity : (a n : EntityKind) (u : Ty) (b : Bool) → (bytes_eq a.name n.name && pointwise bytes_eq a.choices n.choices) ≡ b → only_if b (types.Entity n) ≡ Some u → BothAre (t.Entity a) (t.Entity n) u
   same_entity a n u true at e =
       let is : types.Entity n ≡ u = cc in
-      let one : a ≡ n = (bytes_eq-Decides a n).0 at in
+      let one : a.name ≡ n.name = (bytes_eq-Decides a.name n.name).0 (and_parts (bytes_eq a.name n.name) (pointwise bytes_eq a.choices n.choices) at).0 in
       let second : step (t.Entity n) ≡ sort_in s u = named (types.Entity n) u (t.Entity n) (rolls-Entity n) is in
       (ap (entity_sort s) one ∙ second, second)
   same_entity a n u false at e = absurd cc
 
-  entity_row : (a : List ℕ) (z : Ty-F Ty) (u : Ty) → option_and_then (same_name a) (entity_name_in z) ≡ Some u → BothAre (t.Entity a) z u
-  entity_row a (t.Entity n) u e = same_entity a n u (bytes_eq a n) refl e
+  entity_row : (a : EntityKind) (z : Ty-F Ty) (u : Ty) → option_and_then (same_kind a) (entity_kind_in z) ≡ Some u → BothAre (t.Entity a) z u
+  entity_row a (t.Entity n) u e = same_entity a n u (bytes_eq a.name n.name && pointwise bytes_eq a.choices n.choices) refl e
   entity_row a _ u e = absurd cc
 
   abbrev IsJoined : Ty → Type 0
@@ -312,24 +311,6 @@ module _ (s : Declarations) where
 
   -- ---- types that the schema writes
 
-  one_type : (o : Option EntityType) → IsSome o → (x : EntityType) × (o ≡ Some x)
-  one_type (Some x) h = (x, refl)
-  one_type None h = absurd cc
-
-  -- an entity type is none of actions
-  no_action : IsLawful s → (name : List ℕ) → IsEntityType s name → is_action_type s name ≡ false
-  no_action lawful name h =
-      let found = one_type (entity_type s name) h in
-      let declared = type_declared s name found.0 found.1 in
-      ap (is_action_type s) declared.1 ∙ (all_element (IsLawfulType s) s.types found.0 lawful.each_type declared.0).no_action
-
-  none_named : (name : List ℕ) (actions : List Action) → list_any (λ (a : Action). bytes_eq name a.uid.type_name) actions ≡ false → of_type_name name (map (λ (a : Action). a.uid) actions) ≡ []
-  none_named name [] h = refl
-  none_named name (a ∷ actions) h =
-      let f : bytes_eq name a.uid.type_name ≡ false = or_first (bytes_eq name a.uid.type_name) (list_any (λ (b : Action). bytes_eq name b.uid.type_name) actions) h in
-      let rest = none_named name actions (or_second (bytes_eq name a.uid.type_name) (list_any (λ (b : Action). bytes_eq name b.uid.type_name) actions) h) in
-      rw f rest
-
   abbrev IsWritten : Ty → Type 0
   IsWritten type = IsTypeOf s type → sort_in s type ≡ sort_of type
 
@@ -361,8 +342,9 @@ module _ (s : Declarations) where
   written_step lawful t.String h = refl
   written_step lawful t.Decimal h = refl
   written_step lawful t.Ip h = refl
-  written_step lawful (t.Entity name) h =
-      ap (sort.Entity name) (none_named name s.actions (no_action lawful name (every_level (IsTypeLevel s) (t.Entity name) h)))
+  written_step lawful (t.Entity kind) h =
+      let declared = every_level (IsTypeLevel s) (t.Entity kind) h in
+      ap (sort.Entity kind.name) (sym (kind_uids s kind (no_action s lawful kind.name declared.0) declared.1))
   written_step lawful (t.Set k) h = ap sort.Set (k.1 (every_member (IsTypeLevel s) k.0 h))
   written_step lawful (t.Record ks) h = ap sort.Record (written_fields ks (every_field (IsTypeLevel s) (map (λ (k : List ℕ × Presence × KnownWritten). (k.0, k.1, k.2.0)) ks) h))
 

@@ -17,7 +17,7 @@ sort_step s t.Long = sort.Long
 sort_step s t.String = sort.String
 sort_step s t.Decimal = sort.Decimal
 sort_step s t.Ip = sort.Ip
-sort_step s (t.Entity name) = entity_sort s name
+sort_step s (t.Entity kind) = entity_sort s kind.name
 sort_step s (t.Set member) = sort.Set member
 sort_step s (t.Record fields) =
     sort.Record (map (λ (f : List ℕ × Presence × Sort). (f.0, with_presence f.1 f.2)) fields)

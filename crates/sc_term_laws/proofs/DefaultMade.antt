@@ -5,7 +5,7 @@ use Rattle.sc_lists.proofs.ListLaws.{contains_first}
 use Rattle.sc_ip.specs.declared.ip.Ip.TheVariants.{V4}
 use Rattle.sc_names.specs.declared.uid.Uid.{Uid}
 use Rattle.sc_schema.specs.declared.declarations.Env.{Env}
-use Rattle.sc_schema.specs.Declarations.{Declarations, action_uids}
+use Rattle.sc_schema.specs.Declarations.{Declarations}
 use Rattle.sc_schema.specs.Lawful.{IsEntityType}
 use Rattle.sc_schema.proofs.LawfulLaws.{ascii_text}
 use Rattle.sc_sorts.specs.declared.sort.Sort.{Sort, Sort-F, out-Sort, roll-Sort, map-Sort, ind-Sort}
@@ -24,7 +24,7 @@ use Rattle.sc_term_laws.specs.Judging.{IsTermOf, HaveFields}
 use Rattle.sc_term_laws.specs.Judging as judged
 use Rattle.sc_term_laws.specs.Unfolded.{lacks}
 use Rattle.sc_term_laws.specs.LawfulSorts.{IsDeclared, IsSortLevel, IsSortOf, IsHeldSort}
-use Rattle.sc_term_laws.proofs.ChoicesLaws.{chosen, no_actions}
+use Rattle.sc_term_laws.proofs.ChoicesLaws.{no_actions, listed_of, listed_itself}
 
 module _ (d : Declarations) (env : Env) (written : List Uid) where
   abbrev Is : Sort → Tree → Type 0
@@ -46,15 +46,15 @@ module _ (d : Declarations) (env : Env) (written : List Uid) where
   of_entities name none (inl h) = h
   of_entities name none (inr h) = let both : true ≡ false = sym h ∙ no_actions d name none in cc
 
-  -- the first of the choices of a type is a declared action of it; where there are none, the type is one of entities
+  -- the first of those that a type lists; where it lists none, the type is one of entities
   entity_made : (name : List ℕ) (us : List Uid) → IsSortLevel d (s.Entity name us) → Is (sort.Entity name us) (default_term (sort.Entity name us))
   entity_made name [] h =
       let none : choices_of d name ≡ [] = sym h.1 in
       at (sort.Entity name []) _ (default_Entity name []) (judged.of_default name (of_entities name none h.0) none)
   entity_made name (u ∷ us) h =
-      let there = chosen name (action_uids d) u (subst (λ (vs : List Uid). Contains vs u) h.1 (contains_first u us)) in
-      let made : Is (entity_sort d u.type_name) (literal_term (literal.Entity u (choices_of d u.type_name))) = judged.of_uid u (inr there.among) in
-      let named = subst (λ (n : List ℕ). Is (entity_sort d n) (literal_term (literal.Entity u (choices_of d n)))) there.named made in
+      let there = subst (λ (vs : List Uid). Contains vs u) h.1 (contains_first u us) in
+      let made : Is (entity_sort d u.type_name) (literal_term (literal.Entity u (choices_of d u.type_name))) = judged.of_uid u (inr (listed_itself d name u there)) in
+      let named = subst (λ (n : List ℕ). Is (entity_sort d n) (literal_term (literal.Entity u (choices_of d n)))) (listed_of d name u there).named made in
       at (sort.Entity name (u ∷ us)) _ (default_Entity name (u ∷ us)) (subst (λ (vs : List Uid). Is (sort.Entity name vs) (literal_term (literal.Entity u vs))) (sym h.1) named)
 
   fields_made : (es : List (List ℕ × Known)) → AllByRecursion (λ (f : SortField). IsSortOf d f.1) (map forget es) → HaveFields d env written (map forget es) (parts_of (map with_default (map forget es)))

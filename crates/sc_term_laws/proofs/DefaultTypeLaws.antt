@@ -6,12 +6,13 @@ use Rattle.std.proofs.lemmas.List.Elements.{All-contains, All-from_recursion}
 use Rattle.sc_laws.proofs.OptionLaws.{some_of}
 use Rattle.sc_names.specs.declared.uid.Uid.{Uid}
 use Rattle.sc_schema.specs.declared.declarations.Action.{Action}
+use Rattle.sc_schema.specs.declared.ty.EntityKind.{EntityKind}
 use Rattle.sc_schema.specs.declared.ty.Presence.{Presence}
 use Rattle.sc_schema.specs.declared.ty.Presence.TheVariants.{Required, Optional}
 use Rattle.sc_schema.specs.declared.ty.Ty.{Ty, Ty-F, out-Ty, roll-Ty, map-Ty, ind-Ty, fold-roll-Ty, fold_out-Ty}
 use Rattle.sc_schema.specs.declared.ty.Ty.TheOpen as t
-use Rattle.sc_schema.specs.Declarations.{Declarations, entity_type, is_action_type}
-use Rattle.sc_schema.specs.Lawful.{IsTypeLevel, IsTypeOf, IsEntityType, IsLawful, IsLawfulType}
+use Rattle.sc_schema.specs.Declarations.{Declarations, entity_type, choices_of, is_action_type}
+use Rattle.sc_schema.specs.Lawful.{IsTypeLevel, IsTypeOf, IsEntityKind, IsEntityType, IsLawful, IsLawfulType}
 use Rattle.sc_schema.proofs.EveryTypeLaws as of_type
 use Rattle.sc_schema.proofs.LookupLaws.{type_declared}
 use Rattle.sc_values.specs.declared.value.Value.{Value}
@@ -21,8 +22,9 @@ use Rattle.sc_world.specs.Defaults as world
 use Rattle.sc_world.specs.Defaults.{default_value}
 use Rattle.sc_sorts.specs.declared.sort.Sort.{Sort}
 use Rattle.sc_sorts.specs.declared.sort.Sort.TheVariants as sort
+use Rattle.sc_sorts.specs.Entities.{uid_of, uids_of}
 use Rattle.sc_sorts.specs.OfTypes.{with_presence, sort_step, sort_of}
-use Rattle.sc_sorts.specs.Defaults.{is_option_level, is_option, default_field, default_of}
+use Rattle.sc_sorts.specs.Defaults.{is_option_level, is_option, default_field, default_of, default_uid}
 use Rattle.sc_sorts.proofs.OutLaws as out
 use Rattle.sc_sorts.proofs.DefaultLaws.{default_fields, default_Bool, default_Long, default_String, default_Decimal, default_Ip, default_Entity, default_Set, default_Record}
 
@@ -39,7 +41,7 @@ step_no_option t.Long = ap (is_option_level Sort) out.out_Long
 step_no_option t.String = ap (is_option_level Sort) out.out_String
 step_no_option t.Decimal = ap (is_option_level Sort) out.out_Decimal
 step_no_option t.Ip = ap (is_option_level Sort) out.out_Ip
-step_no_option (t.Entity name) = ap (is_option_level Sort) (out.out_Entity name [])
+step_no_option (t.Entity kind) = ap (is_option_level Sort) (out.out_Entity kind.name (uids_of kind))
 step_no_option (t.Set member) = ap (is_option_level Sort) (out.out_Set member)
 step_no_option (t.Record fields) = ap (is_option_level Sort) (out.out_Record _)
 
@@ -58,6 +60,11 @@ none_among : (name : List ℕ) (actions : List Action) → list_any (λ (a : Act
 none_among name [] h = refl
 none_among name (a ∷ actions) h = passes_over (bytes_eq name a.uid.type_name) _ a.uid _ h (none_among name actions)
 
+-- the first of the entities with these ids
+first_uid : (name : List ℕ) (ids : List (List ℕ)) → default_uid name (map (uid_of name) ids) ≡ world.first_entity name ids
+first_uid name [] = refl
+first_uid name (id ∷ ids) = refl
+
 -- ---- types
 
 module _ (s : Declarations) (lawful : IsLawful s) where
@@ -68,10 +75,13 @@ module _ (s : Declarations) (lawful : IsLawful s) where
       let h : IsLawfulType s found.0 = All-contains (IsLawfulType s) s.types found.0 (All-from_recursion (IsLawfulType s) s.types lawful.each_type) there.0 in
       ap (is_action_type s) there.1 ∙ h.no_action
 
-  entity_default : (name : List ℕ) → IsEntityType s name → default_of (sort.Entity name []) ≡ value.Entity (world.default_uid s name)
-  entity_default name declared =
-      default_Entity name []
-      ∙ ap value.Entity (sym (ap (λ (o : Option Uid). unwrap_or o (world.nameless name)) (none_among name s.actions (no_action name declared))))
+  entity_default : (kind : EntityKind) → IsEntityKind s kind → default_of (sort.Entity kind.name (uids_of kind)) ≡ value.Entity (world.default_uid s kind.name)
+  entity_default kind (declared, chosen) =
+      default_Entity kind.name (uids_of kind)
+      ∙ ap value.Entity (
+      first_uid kind.name kind.choices
+      ∙ ap (world.first_entity kind.name) chosen
+      ∙ sym (ap (λ (o : Option Uid). unwrap_or o (world.first_entity kind.name (choices_of s kind.name))) (none_among kind.name s.actions (no_action kind.name declared))))
 
   abbrev Agrees : Ty → Type 0
   Agrees x = IsTypeOf s x → default_of (sort_of x) ≡ world.default_value s x
@@ -115,7 +125,7 @@ module _ (s : Declarations) (lawful : IsLawful s) where
   level t.String h = default_String
   level t.Decimal h = default_Decimal
   level t.Ip h = default_Ip
-  level (t.Entity name) h = entity_default name (of_type.every_level (IsTypeLevel s) (t.Entity name) h)
+  level (t.Entity kind) h = entity_default kind (of_type.every_level (IsTypeLevel s) (t.Entity kind) h)
   level (t.Set k) h = default_Set (sort_of k.0)
   level (t.Record ks) h =
       default_Record (sorts_at (attributes_of ks)) ∙ ap value.Record (fields_agree ks (of_type.every_field (IsTypeLevel s) (attributes_of ks) h))

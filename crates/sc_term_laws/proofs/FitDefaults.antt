@@ -1,16 +1,17 @@
 -- The default of a lawful sort is of the sort.
-use Rattle.std.proofs.Common.{◌≡◌, ◌++◌, inr, ℕ, ℤ, FitsSigned, List, [], ◌∷◌, map, Bool, true, false, pos, arith, Option, None, Contains, refl, sym, ap, ◌∙◌, subst}
+use Rattle.std.proofs.Common.{◌≡◌, ◌++◌, inl, inr, ℕ, ℤ, FitsSigned, List, [], ◌∷◌, map, Bool, true, false, pos, arith, Option, None, Contains, refl, sym, ap, ◌∙◌, subst}
 use Rattle.std.specs.List.{AllByRecursion, flat_map}
 use Rattle.std.specs.Int.{w64}
 use Rattle.std.specs.List.Sorted.{IsStrictlySortedBy}
 use Rattle.std.specs.Str.{IsUtf8}
+use Rattle.std.specs.Cmp.Derive.{both_true}
 use Rattle.std.proofs.lemmas.Slice.Eq.{bytes_eq-Decides}
 use Rattle.sc_ip.specs.declared.ip.Ip.{Ip}
 use Rattle.sc_ip.specs.declared.ip.Ip.TheVariants.{V4}
 use Rattle.sc_ip.specs.Addresses.{IsIp}
 use Rattle.sc_lists.proofs.ListLaws.{contains_first}
 use Rattle.sc_names.specs.declared.uid.Uid.{Uid}
-use Rattle.sc_schema.specs.Declarations.{Declarations, action_uids}
+use Rattle.sc_schema.specs.Declarations.{Declarations}
 use Rattle.sc_schema.specs.Lawful.{IsLawful}
 use Rattle.sc_schema.proofs.LawfulLaws.{ascii_text}
 use Rattle.sc_sorts.specs.declared.sort.Sort.{Sort, Sort-F, roll-Sort, map-Sort, ind-Sort}
@@ -18,7 +19,6 @@ use Rattle.sc_sorts.specs.declared.sort.Sort.TheVariants as sort
 use Rattle.sc_sorts.specs.declared.sort.Sort.TheVariants.{rolls-Bool, rolls-Long, rolls-String, rolls-Decimal, rolls-Ip, rolls-Entity, rolls-Set, rolls-Record, rolls-Option}
 use Rattle.sc_sorts.specs.declared.sort.Sort.TheOpen as s
 use Rattle.sc_sorts.specs.Defaults.{is_option, default_field, default_of, default_uid}
-use Rattle.sc_sorts.specs.Entities.{choices_of}
 use Rattle.sc_sorts.specs.Inside.{SortField, SortFields, held_in}
 use Rattle.sc_sorts.proofs.DefaultLaws as default
 use Rattle.sc_sorts.proofs.DefaultLaws.{default_fields}
@@ -30,16 +30,17 @@ use Rattle.sc_values.specs.Proper.{IsProperLevel, IsUidText}
 use Rattle.sc_values.specs.Order.{value_cmp}
 use Rattle.sc_values.proofs.EveryLaws as every
 use Rattle.sc_values.proofs.OutLaws as out
+use Rattle.sc_world.specs.Choices.{is_choice}
 use Rattle.sc_world.specs.Conforms.{is_string, is_decimal, is_ip, is_entity_of}
 use Rattle.sc_world.specs.Stores.{Entities}
 use Rattle.sc_terms.specs.Values.{Val, it, field_of, default_by, default_val}
-use Rattle.sc_term_laws.specs.Fitting.{fits, IsOfSort, IsKnown, NamesKnownLevel, Fits, as_value, as_option}
+use Rattle.sc_term_laws.specs.Fitting.{kind_listed, fits, IsOfSort, IsKnown, NamesKnownLevel, Fits, as_value, as_option}
 use Rattle.sc_term_laws.specs.LawfulSorts.{IsSortLevel, IsSortOf}
-use Rattle.sc_term_laws.proofs.ChoicesLaws.{chosen}
+use Rattle.sc_term_laws.proofs.ChoicesLaws.{ids_in, listed_of, listed_itself, listed_choice}
 use Rattle.sc_term_laws.proofs.FitVals.{fits_at, at, bool_of, long_of}
 use Rattle.sc_term_laws.proofs.FitSets.{set_of}
 use Rattle.sc_term_laws.proofs.FitRecords.{HaveVals, no_val, with_val, record_of, fits_held}
-use Rattle.sc_term_laws.proofs.SortsLawful.{declared_text, action_of, lawful_action}
+use Rattle.sc_term_laws.proofs.SortsLawful.{declared_text, listed_declared}
 use Rattle.sc_term_laws.proofs.TestLaws.{option_told}
 
 pub none_ascends : IsStrictlySortedBy value_cmp []
@@ -84,25 +85,23 @@ module _ (d : Declarations) (es : Entities) where
     named = every.every_Ip (NamesKnownLevel d es) ip tt;
   }
 
-  pub entity_of : (name : List ℕ) (us : List Uid) (u : Uid) → u.type_name ≡ name → IsUidText u → IsKnown d es u → Of (sort.Entity name us) (value.Entity u)
-  entity_of name us u e text known = record {
+  pub entity_of : (name : List ℕ) (us : List Uid) (u : Uid) → u.type_name ≡ name → is_choice (ids_in us) u.id ≡ true → IsUidText u → IsKnown d es u → Of (sort.Entity name us) (value.Entity u)
+  entity_of name us u e chosen text known = record {
     of_sort = at (sort.Entity name us) _ (fits_at (sort.Entity name us) (s.Entity name us) (rolls-Entity name us)) (value.Entity u)
-        (ap (is_entity_of name) (out.out_Entity u) ∙ (bytes_eq-Decides u.type_name name).1 e);
+        (ap (is_entity_of (kind_listed name us)) (out.out_Entity u) ∙ both_true ((bytes_eq-Decides u.type_name name).1 e) chosen);
     proper = every.every_Entity IsProperLevel u text;
     named = every.every_Entity (NamesKnownLevel d es) u known;
   }
 
   module _ (lawful : IsLawful d) where
-    -- the least of a type's choices, or the entity with no id
+    -- the first of those that a type lists, or the entity with no id
     default_entity : (name : List ℕ) (us : List Uid) → IsSortLevel d (s.Entity name us) → Of (sort.Entity name us) (value.Entity (default_uid name us))
     default_entity name [] h =
-        entity_of name [] (default_uid name []) refl (declared_text d lawful name h.0, ascii_text [] refl) (inr (ap (default_uid name) h.1))
+        entity_of name [] (default_uid name []) refl refl (declared_text d lawful name h.0, ascii_text [] refl) (inr (inl (ap (default_uid name) h.1)))
     default_entity name (u ∷ us) h =
-        let there = chosen name (action_uids d) u (subst (λ (vs : List Uid). Contains vs u) h.1 (contains_first u us)) in
-        let a = action_of d lawful u there.among in
-        let it = lawful_action d lawful a.0 a.1 in
-        let known : u ≡ default_uid u.type_name (choices_of d u.type_name) = ap (default_uid name) h.1 ∙ ap (λ (n : List ℕ). default_uid n (choices_of d n)) (sym there.named) in
-        entity_of name (u ∷ us) u there.named (subst IsUidText a.2 (it.type_text, it.id_text)) (inr known)
+        let there = subst (λ (vs : List Uid). Contains vs u) h.1 (contains_first u us) in
+        let listed = listed_itself d name u there in
+        entity_of name (u ∷ us) u (listed_of d name u there).named (listed_choice (u ∷ us) u (contains_first u us)) (listed_declared d lawful u listed).text (inr (inr listed))
 
     -- ---- records
 

@@ -1,5 +1,5 @@
 -- What a well-formed world has of a request and of entities fits.
-use Rattle.std.proofs.Common.{cond, ◌≡◌, inl, ℕ, List, [], ◌∷◌, map, filter, Bool, true, false, Option, Some, None, unwrap_or, IsSome, IsTrue, IsSomeAnd, MatchOption, refl, sym, ap, ◌∙◌, subst}
+use Rattle.std.proofs.Common.{cond, ◌≡◌, inl, ℕ, List, [], ◌∷◌, map, filter, Bool, true, false, Option, Some, None, unwrap_or, IsSome, IsTrue, IsSomeAnd, MatchOption, Contains, refl, sym, ap, ◌∙◌, subst}
 use Rattle.std.specs.List.{AllByRecursion}
 use Rattle.std.specs.List.Sorted.{IsStrictlySortedBy}
 use Rattle.std.specs.Map.{keys_of}
@@ -9,7 +9,7 @@ use Rattle.std.specs.declared.cmp.Ordering.{Ordering}
 use Rattle.std.specs.declared.cmp.Ordering.TheVariants.{Less}
 use Rattle.std.proofs.lemmas.Map.Views.{Contains-from_lookup}
 use Rattle.std.proofs.lemmas.List.Kept.{IsStrictlySortedBy-filter}
-use Rattle.sc_lists.proofs.ListLaws.{all_element}
+use Rattle.sc_lists.proofs.ListLaws.{all_element, contains_map}
 use Rattle.sc_laws.proofs.OptionLaws.{same_some, some_of}
 use Rattle.sc_lists.proofs.OrderingLaws.{is_eq_true}
 use Rattle.sc_lists.proofs.TextLaws.{bytes_eq_true}
@@ -18,12 +18,14 @@ use Rattle.sc_names.specs.Uids.{text_cmp, uid_cmp}
 use Rattle.sc_names.proofs.UidLaws.{uid_cmp_level}
 use Rattle.sc_schema.specs.declared.ty.Ty.{Ty}
 use Rattle.sc_schema.specs.declared.declarations.Env.{Env}
-use Rattle.sc_schema.specs.Declarations.{Declarations, attrs_of, tags_of, context_of}
+use Rattle.sc_schema.specs.declared.declarations.Action.{Action}
+use Rattle.sc_schema.specs.Declarations.{Declarations, action_uids, attrs_of, tags_of, context_of, is_action_type}
 use Rattle.sc_schema.specs.Lawful.{IsLawful, IsTypeOf}
 use Rattle.sc_sorts.specs.declared.sort.Sort.{Sort}
 use Rattle.sc_sorts.specs.declared.sort.Sort.TheVariants as sort
 use Rattle.sc_sorts.specs.declared.sort.Sort.TheOpen as s
 use Rattle.sc_sorts.specs.Defaults.{default_of}
+use Rattle.sc_sorts.specs.Entities.{choices_of, entity_sort}
 use Rattle.sc_sorts.specs.OfTypes.{sort_of}
 use Rattle.sc_sorts.proofs.OutLaws.{out_Entity}
 use Rattle.sc_values.specs.declared.value.Value.{Value, Value-F, every-Value, roll-Value, map-Value, ind-Value}
@@ -39,13 +41,14 @@ use Rattle.sc_values.proofs.OrderLaws.{value_cmp_by_kind}
 use Rattle.sc_values.proofs.OutLaws as out
 use Rattle.sc_world.specs.declared.entity.EntityData.{EntityData}
 use Rattle.sc_world.specs.declared.world.World.{World}
+use Rattle.sc_world.specs.Choices.{is_choice}
 use Rattle.sc_world.specs.Conforms.{conforms}
 use Rattle.sc_world.specs.Stores.{Entities, stored}
-use Rattle.sc_world.specs.WellFormed.{Entry, IsStored, NamesStored, NamesStoredLevel, IsWellFormed, IsProperEntry, EntryNamesStored, HasAttributes, HasTags}
+use Rattle.sc_world.specs.WellFormed.{Entry, IsStored, NamesStored, NamesStoredLevel, IsWellFormed, IsProperEntry, EntryNamesStored, HasAttributes, HasTags, IsAction, HasChoices}
 use Rattle.sc_terms.specs.Values.{Val, it, attributes_value, ancestors_value, keys_value, tag_value}
 use Rattle.sc_term_laws.specs.Fitting.{IsOfSort, NamesKnown, NamesKnownLevel, Fits, as_value}
 use Rattle.sc_term_laws.specs.LawfulSorts.{IsDeclared}
-use Rattle.sc_term_laws.proofs.ChoicesLaws.{declared_is}
+use Rattle.sc_term_laws.proofs.ChoicesLaws.{declared_is, ids_in, declared_choice}
 use Rattle.sc_term_laws.proofs.DefaultTypeLaws.{no_option}
 use Rattle.sc_term_laws.proofs.FitLaws.{type_fits}
 use Rattle.sc_term_laws.proofs.FitVals.{no_option_at}
@@ -160,11 +163,26 @@ module _ (d : Declarations) (env : Env) (written : List Uid) (w : World) (lawful
   pub stored_text : (u : Uid) → IsStored w.store u → IsUidText u
   stored_text u h = let e = entry_of u h in (entry IsProperEntry u e.0 well.proper.entries e.1).uid
 
+  -- an entity that is stored is a declared action, a choice, or of a type that lists none
+  stored_action : (u : Uid) → IsStored w.store u → is_action_type d u.type_name ≡ true → Contains (action_uids d) u
+  stored_action u h typed =
+      let e = entry_of u h in
+      let a = entry (IsAction d) u e.0 well.actions e.1 typed in
+      subst (Contains (action_uids d)) (sym (ap (λ (x : Entry). x.0) a.2)) (contains_map (λ (b : Action). b.uid) d.actions a.0 a.1)
+
+  pub stored_choice : (u : Uid) → IsStored w.store u → is_choice (ids_in (choices_of d u.type_name)) u.id ≡ true
+  stored_choice u h = let e = entry_of u h in declared_choice d u (stored_action u h) (entry (HasChoices d) u e.0 well.choices e.1).uid
+
+  stored_of : (name : List ℕ) (u : Uid) → u.type_name ≡ name → IsStored w.store u → Of (entity_sort d name) (value.Entity u)
+  stored_of name u e h =
+      entity_of d w.store name (choices_of d name) u e
+      (ap (λ (n : List ℕ). is_choice (ids_in (choices_of d n)) u.id) (sym e) ∙ stored_choice u h) (stored_text u h) (inl h)
+
   -- an entity that is stored
-  pub stored_fits : (name : List ℕ) (us : List Uid) (u : Uid) → u.type_name ≡ name → IsStored w.store u → FitsVal (sort.Entity name us) (it (value.Entity u))
-  stored_fits name us u e h =
-      as_value (value.Entity u) (no_option_at (sort.Entity name us) (s.Entity name us) (out_Entity name us) refl)
-      (entity_of d w.store name us u e (stored_text u h) (inl h))
+  pub stored_fits : (name : List ℕ) (u : Uid) → u.type_name ≡ name → IsStored w.store u → FitsVal (entity_sort d name) (it (value.Entity u))
+  stored_fits name u e h =
+      as_value (value.Entity u) (no_option_at (entity_sort d name) (s.Entity name (choices_of d name)) (out_Entity name (choices_of d name)) refl)
+      (stored_of name u e h)
 
   -- ---- records of a type
 
@@ -239,22 +257,21 @@ module _ (d : Declarations) (env : Env) (written : List Uid) (w : World) (lawful
   abbrev of_name : List ℕ → List Uid → List Uid
   of_name name us = filter (λ (u : Uid). bytes_eq name u.type_name) us
 
-  ancestor_by : (name : List ℕ) (us : List Uid) (u : Uid) (rest : List Uid) (b : Bool) → bytes_eq name u.type_name ≡ b → IsUidText u → IsStored w.store u
-      → AllByRecursion (Of (sort.Entity name us)) (map value.Entity rest) → AllByRecursion (Of (sort.Entity name us)) (map value.Entity (cond b (u ∷ rest) rest))
-  ancestor_by name us u rest true e text there h = (entity_of d w.store name us u (sym (bytes_eq_true name u.type_name e)) text (inl there), h)
-  ancestor_by name us u rest false e text there h = h
+  ancestor_by : (name : List ℕ) (u : Uid) (rest : List Uid) (b : Bool) → bytes_eq name u.type_name ≡ b → IsStored w.store u
+      → AllByRecursion (Of (entity_sort d name)) (map value.Entity rest) → AllByRecursion (Of (entity_sort d name)) (map value.Entity (cond b (u ∷ rest) rest))
+  ancestor_by name u rest true e there h = (stored_of name u (sym (bytes_eq_true name u.type_name e)) there, h)
+  ancestor_by name u rest false e there h = h
 
-  ancestors_each : (name : List ℕ) (us ups : List Uid) → AllByRecursion IsUidText ups → AllByRecursion (IsStored w.store) ups → AllByRecursion (Of (sort.Entity name us)) (map value.Entity (of_name name ups))
-  ancestors_each name us [] texts there = tt
-  ancestors_each name us (u ∷ ups) texts there =
-      ancestor_by name us u (of_name name ups) (bytes_eq name u.type_name) refl texts.0 there.0 (ancestors_each name us ups texts.1 there.1)
+  ancestors_each : (name : List ℕ) (ups : List Uid) → AllByRecursion (IsStored w.store) ups → AllByRecursion (Of (entity_sort d name)) (map value.Entity (of_name name ups))
+  ancestors_each name [] there = tt
+  ancestors_each name (u ∷ ups) there = ancestor_by name u (of_name name ups) (bytes_eq name u.type_name) refl there.0 (ancestors_each name ups there.1)
 
-  pub ancestors_fit : (name : List ℕ) (us : List Uid) (u : Uid) (o : Option EntityData) → stored u w.store ≡ o → FitsVal (sort.Set (sort.Entity name us)) (it (ancestors_value name o))
-  ancestors_fit name us u None h = set_fits d w.store (sort.Entity name us) [] none_ascends tt
-  ancestors_fit name us u (Some e) h =
+  pub ancestors_fit : (name : List ℕ) (u : Uid) (o : Option EntityData) → stored u w.store ≡ o → FitsVal (sort.Set (entity_sort d name)) (it (ancestors_value name o))
+  ancestors_fit name u None h = set_fits d w.store (entity_sort d name) [] none_ascends tt
+  ancestors_fit name u (Some e) h =
       let proper = entry IsProperEntry u e well.proper.entries h in
       let named = entry (EntryNamesStored w.store) u e well.closed.entries h in
       let chosen = of_name name e.ancestors in
-      set_fits d w.store (sort.Entity name us) (map value.Entity chosen)
+      set_fits d w.store (entity_sort d name) (map value.Entity chosen)
       (ascend_map uid_cmp value_cmp value.Entity entity_cmp chosen (IsStrictlySortedBy-filter uid_cmp (λ (a : Uid). bytes_eq name a.type_name) e.ancestors proper.ancestors))
-      (ancestors_each name us e.ancestors proper.ancestor_texts named.ancestors)
+      (ancestors_each name e.ancestors named.ancestors)

@@ -3,6 +3,8 @@ use Rattle.std.proofs.Common.{cond, ◌≡◌, ℕ, Bool, true, false, ◌&&◌,
 use Rattle.std.specs.List.{list_all, list_any}
 use Rattle.std.specs.Str.{bytes_eq}
 use Rattle.sc_laws.proofs.BoolLaws.{and_first, and_second}
+use Rattle.sc_names.specs.declared.uid.Uid.{Uid}
+use Rattle.sc_schema.specs.declared.ty.EntityKind.{EntityKind}
 use Rattle.sc_schema.specs.declared.ty.Presence.{Presence}
 use Rattle.sc_schema.specs.declared.ty.Presence.TheVariants.{Required, Optional}
 use Rattle.sc_schema.specs.declared.ty.Ty.{Ty, Ty-F, roll-Ty, map-Ty, ind-Ty, fold-roll-Ty}
@@ -11,12 +13,13 @@ use Rattle.sc_sorts.specs.declared.sort.Sort.{Sort, Sort-F, out-Sort, roll-Sort,
 use Rattle.sc_sorts.specs.declared.sort.Sort.TheVariants as sort
 use Rattle.sc_sorts.specs.declared.sort.Sort.TheVariants.{rolls-Bool, rolls-Long, rolls-String, rolls-Decimal, rolls-Ip, rolls-Entity, rolls-Set, rolls-Record, rolls-Option}
 use Rattle.sc_sorts.specs.declared.sort.Sort.TheOpen as s
+use Rattle.sc_sorts.specs.Entities.{uid_of, uids_of}
 use Rattle.sc_sorts.specs.OfTypes.{sort_of, sort_step, with_presence}
 use Rattle.sc_values.specs.declared.value.Value.{Value, Value-F, out-Value}
 use Rattle.sc_values.specs.declared.value.Value.TheOpen as v
 use Rattle.sc_values.specs.Records.{Fields, field}
-use Rattle.sc_world.specs.Conforms.{Test, is_bool, is_set_of, is_record_of, passes, conforms, conforms_step}
-use Rattle.sc_term_laws.specs.Fitting.{Seen, seen_step, fits_step, fits}
+use Rattle.sc_world.specs.Conforms.{Test, is_bool, is_entity_of, is_set_of, is_record_of, passes, conforms, conforms_step}
+use Rattle.sc_term_laws.specs.Fitting.{Seen, kind_listed, seen_step, fits_step, fits}
 use Rattle.std.specs.Prelude.{find}
 use Rattle.std.specs.declared.cmp.Ordering.{Ordering}
 use Rattle.std.specs.declared.cmp.Ordering.TheVariants.{Less, Equal, Greater}
@@ -71,6 +74,15 @@ all_so p q f (x ∷ xs) h = both_so (p x) (list_all p xs) (q x) (list_all q xs) 
 pub set_so : (p q : Test) → ((x : Value) → p x ≡ true → q x ≡ true) → (x : Value-F Value) → is_set_of p x ≡ true → is_set_of q x ≡ true
 set_so p q f (v.Set xs) h = all_so p q f xs h
 set_so p q f _ h = absurd cc
+
+-- ---- a type of entities, by those that its sort lists
+
+ids_of_uids : (name : List ℕ) (ids : List (List ℕ)) → map (λ (u : Uid). u.id) (map (uid_of name) ids) ≡ ids
+ids_of_uids name [] = refl
+ids_of_uids name (id ∷ ids) = ap (λ (more : List (List ℕ)). id ∷ more) (ids_of_uids name ids)
+
+pub kind_of_uids : (kind : EntityKind) → kind_listed kind.name (uids_of kind) ≡ kind
+kind_of_uids kind = λ i. record { name = kind.name; choices = ids_of_uids kind.name kind.choices i }
 
 -- ---- a type and its sort
 
@@ -148,8 +160,10 @@ inner t.Long = at_level t.Long sort.Long (fits_step s.Long) (sort_roll t.Long) (
 inner t.String = at_level t.String sort.String (fits_step s.String) (sort_roll t.String) (ap fits (sym rolls-String) ∙ fits_roll s.String) (λ x h. h)
 inner t.Decimal = at_level t.Decimal sort.Decimal (fits_step s.Decimal) (sort_roll t.Decimal) (ap fits (sym rolls-Decimal) ∙ fits_roll s.Decimal) (λ x h. h)
 inner t.Ip = at_level t.Ip sort.Ip (fits_step s.Ip) (sort_roll t.Ip) (ap fits (sym rolls-Ip) ∙ fits_roll s.Ip) (λ x h. h)
-inner (t.Entity name) =
-    at_level (t.Entity name) (sort.Entity name []) (fits_step (s.Entity name [])) (sort_roll (t.Entity name)) (ap fits (sym (rolls-Entity name [])) ∙ fits_roll (s.Entity name [])) (λ x h. h)
+inner (t.Entity kind) =
+    let us = uids_of kind in
+    at_level (t.Entity kind) (sort.Entity kind.name us) (fits_step (s.Entity kind.name us)) (sort_roll (t.Entity kind)) (ap fits (sym (rolls-Entity kind.name us)) ∙ fits_roll (s.Entity kind.name us))
+    (λ x h. ap (λ (k : EntityKind). is_entity_of k (out-Value x)) (kind_of_uids kind) ∙ h)
 inner (t.Set a) =
     let k = sort_of a.0 in
     at_level (t.Set a.0) (sort.Set k) (fits_step (s.Set (seen k))) (sort_roll (t.Set a.0)) (ap fits (sym (rolls-Set k)) ∙ fits_roll (s.Set k))

@@ -2,6 +2,7 @@
 use Rattle.std.proofs.Common.{cond, ◌≡◌, ℕ, ℤ, List, Bool, true, false, not, Option, Some, None, FitsSigned, refl, sym, ap, ◌∙◌, subst}
 use Rattle.std.specs.Int.{w64, int_wrap}
 use Rattle.std.proofs.lemmas.Int.{SFits-int_wrap}
+use Rattle.sc_schema.specs.declared.ty.EntityKind.{EntityKind}
 use Rattle.sc_schema.specs.Declarations.{Declarations}
 use Rattle.sc_sorts.specs.declared.sort.Sort.{Sort, Sort-F, out-Sort, roll-Sort, map-Sort}
 use Rattle.sc_sorts.specs.declared.sort.Sort.TheVariants as sort
@@ -18,7 +19,7 @@ use Rattle.sc_values.proofs.OutLaws as out
 use Rattle.sc_world.specs.Conforms.{is_bool, is_long, is_string, is_decimal, is_ip, is_entity_of, is_set_of}
 use Rattle.sc_world.specs.Stores.{Entities}
 use Rattle.sc_terms.specs.Values.{Val, it, yes, bool_seen, seen, truth, not_seen, not_value, and_seen, and_value, or_seen, or_value, equal_seen, equal_value, val_eq, choice_value}
-use Rattle.sc_term_laws.specs.Fitting.{Seen, Test, fits_step, fits, is_record_of, IsOfSort, NamesKnownLevel, Fits, as_value, as_option}
+use Rattle.sc_term_laws.specs.Fitting.{Seen, Test, kind_listed, fits_step, fits, is_record_of, IsOfSort, NamesKnownLevel, Fits, as_value, as_option}
 use Rattle.sc_term_laws.proofs.FitLaws as fit
 use Rattle.sc_term_laws.proofs.TestLaws.{at_level}
 
@@ -122,9 +123,9 @@ module _ (d : Declarations) (es : Entities) where
   ip_no_bool (v.Ip n) b h e = cc
   ip_no_bool _ b h e = absurd cc
 
-  entity_no_bool : (name : List ℕ) (x : Value-F Value) (b : Bool) → is_entity_of name x ≡ true → bool_seen x ≡ Some b → ⊥
-  entity_no_bool name (v.Entity u) b h e = cc
-  entity_no_bool name _ b h e = absurd cc
+  entity_no_bool : (kind : EntityKind) (x : Value-F Value) (b : Bool) → is_entity_of kind x ≡ true → bool_seen x ≡ Some b → ⊥
+  entity_no_bool kind (v.Entity u) b h e = cc
+  entity_no_bool kind _ b h e = absurd cc
 
   set_no_bool : (p : Test) (x : Value-F Value) (b : Bool) → is_set_of p x ≡ true → bool_seen x ≡ Some b → ⊥
   set_no_bool p (v.Set xs) b h e = cc
@@ -140,7 +141,7 @@ module _ (d : Declarations) (es : Entities) where
   bool_level k s.String x b e h o g = absurd (string_no_bool (out-Value x) b h g)
   bool_level k s.Decimal x b e h o g = absurd (decimal_no_bool (out-Value x) b h g)
   bool_level k s.Ip x b e h o g = absurd (ip_no_bool (out-Value x) b h g)
-  bool_level k (s.Entity name us) x b e h o g = absurd (entity_no_bool name (out-Value x) b h g)
+  bool_level k (s.Entity name us) x b e h o g = absurd (entity_no_bool (kind_listed name us) (out-Value x) b h g)
   bool_level k (s.Set member) x b e h o g = absurd (set_no_bool _ (out-Value x) b h g)
   bool_level k (s.Record fields) x b e h o g = absurd (record_no_bool _ (out-Value x) b h g)
   bool_level k (s.Option held) x b e h o g = absurd cc

@@ -1,5 +1,5 @@
 -- The sort of a type that a schema writes, and that of a term, is one of the schema's values.
-use Rattle.std.proofs.Common.{cond, ◌≡◌, inl, inr, ℕ, List, [], ◌∷◌, map, Bool, true, false, Option, Some, None, option_map, option_and_then, IsSome, IfSome, Contains, refl, sym, ap, ◌∙◌, subst}
+use Rattle.std.proofs.Common.{cond, ◌≡◌, inl, inr, ℕ, List, [], ◌∷◌, map, Bool, true, false, Option, Some, None, option_map, option_and_then, unwrap_or, is_some, IsSome, IfSome, Contains, refl, sym, ap, ◌∙◌, subst}
 use Rattle.std.specs.List.{AllByRecursion}
 use Rattle.std.specs.Map.{keys_of}
 use Rattle.std.specs.Str.{bytes_eq, IsUtf8}
@@ -15,18 +15,22 @@ use Rattle.sc_schema.specs.declared.ty.Ty.TheVariants.{Record}
 use Rattle.sc_schema.specs.declared.ty.Ty.TheOpen as t
 use Rattle.sc_schema.specs.declared.declarations.Action.{Action}
 use Rattle.sc_schema.specs.declared.declarations.EntityType.{EntityType}
-use Rattle.sc_schema.specs.Declarations.{Declarations, action, action_uids, attrs_of, tags_of, context_of, ancestor_types, types_above, in_order, entity_type, is_action_type}
-use Rattle.sc_schema.specs.Lawful.{IsLawful, IsLawfulType, IsLawfulAction, IsTypeLevel, IsTypeOf, IsEntityType, names_of_fields}
+use Rattle.sc_schema.specs.Declarations.{Declarations, action, action_uids, attrs_of, tags_of, choices_of as ids_of, context_of, ancestor_types, types_above, in_order, entity_type, is_action_type}
+use Rattle.sc_schema.specs.Lawful.{IsBare, IsLawful, IsLawfulType, IsLawfulAction, IsTypeLevel, IsTypeOf, IsEntityType, names_of_fields}
 use Rattle.sc_schema.proofs.EveryTypeLaws as of_type
 use Rattle.sc_schema.proofs.IndexLaws.{in_order_members}
 use Rattle.sc_schema.proofs.LawfulLaws.{no_fields_lawful}
 use Rattle.sc_schema.proofs.LookupLaws.{type_declared, action_declared}
 use Rattle.sc_sorts.specs.declared.sort.Sort.{Sort}
+use Rattle.sc_sorts.specs.Entities.{uid_of, uids_of, choices_of, IsListed}
 use Rattle.sc_sorts.specs.Inside.{SortField, SortFields}
 use Rattle.sc_sorts.specs.OfTypes.{with_presence, sort_of, sort_step}
+use Rattle.sc_sorts.proofs.EntitiesLaws.{kind_choices}
 use Rattle.sc_sorts.proofs.EveryLaws.{in_Bool, in_Long, in_String, in_Decimal, in_Ip, in_Entity, in_Set, in_Record, in_Option}
+use Rattle.sc_values.specs.Proper.{IsUidText}
+use Rattle.sc_world.specs.Choices.{is_choice, IsChoice}
 use Rattle.sc_term_laws.specs.LawfulSorts.{AreNames, IsDeclared, IsSortLevel, IsSortOf}
-use Rattle.sc_term_laws.proofs.ChoicesLaws.{no_choices}
+use Rattle.sc_term_laws.proofs.ChoicesLaws.{ids_in, plain_ids, IsChosen, IsListedAs, as_action, as_choice, IsListedOf, kind_uids, listed_of}
 use Rattle.sc_term_laws.proofs.DefaultTypeLaws.{no_option, no_action}
 use Rattle.sc_term_laws.proofs.FitLaws.{sort_roll}
 use Rattle.sc_term_laws.proofs.MemberLaws.{any_found}
@@ -54,6 +58,31 @@ module _ (d : Declarations) (lawful : IsLawful d) where
 
   pub declared_action : (u : Uid) → Contains (action_uids d) u → IsDeclared d u.type_name
   declared_action u h = let a = action_of u h in inr (subst (λ (v : Uid). is_action_type d v.type_name ≡ true) a.2 (action_type a.0 a.1))
+
+  -- ---- entities that their types list
+
+  typed_choices : (o : Option EntityType) (name id : List ℕ) → entity_type d name ≡ o → Contains (unwrap_or (option_map (λ (x : EntityType). x.choices) o) []) id
+      → IsEntityType d name × IsUtf8 id
+  typed_choices None name id e h = absurd (contains_nothing id h)
+  typed_choices (Some x) name id e h =
+      (ap (λ (o : Option EntityType). is_some o) e, all_element IsUtf8 x.choices id (lawful_type name x e).0.ids.texts h)
+
+  -- the type and the id are texts, and the type is declared
+  pub record IsOfDeclaredType (u : Uid) : Type 0 where
+    pub type_declared : IsDeclared d u.type_name
+    pub text : IsUidText u
+
+  listed_as : (u : Uid) → IsListedAs d u.type_name u → IsOfDeclaredType u
+  listed_as u (as_action e h) =
+      let a = action_of u h in
+      let it = lawful_action a.0 a.1 in
+      record { type_declared = declared_action u h; text = subst IsUidText a.2 (it.type_text, it.id_text) }
+  listed_as u (as_choice e h) =
+      let it = typed_choices (entity_type d u.type_name) u.type_name u.id refl h in
+      record { type_declared = inl it.0; text = (declared_text u.type_name (inl it.0), it.1) }
+
+  pub listed_declared : (u : Uid) → IsListed d u → IsOfDeclaredType u
+  listed_declared u h = listed_as u (listed_of d u.type_name u h).kind
 
   -- ---- types above a type
 
@@ -84,6 +113,77 @@ module _ (d : Declarations) (lawful : IsLawful d) where
 
   pub above_declared : (name above : List ℕ) (names : List (List ℕ)) → ancestor_types d name ≡ Some names → Contains names above → IsDeclared d above
   above_declared name above names e h = above_by (is_action_type d name) name above names e h
+
+  -- ---- enumerated types
+
+  -- its declaration, of which nothing is stored but that there is an entity
+  pub record IsBareType (name : List ℕ) : Type 0 where
+    pub type : EntityType
+    pub found : entity_type d name ≡ Some type
+    pub bare : IsBare type.shape type.tags type.ancestors
+
+  bare_at : (o : Option EntityType) (name : List ℕ) → entity_type d name ≡ o → (unwrap_or (option_map (λ (x : EntityType). x.choices) o) [] ≡ [] → ⊥) → IsBareType name
+  bare_at None name e some = absurd (some refl)
+  bare_at (Some x) name e some = record { type = x; found = e; bare = (lawful_type name x e).0.bare some }
+
+  -- of a type that lists entities and is no one of actions
+  pub bare_type : (name : List ℕ) → is_action_type d name ≡ false → (choices_of d name ≡ [] → ⊥) → IsBareType name
+  bare_type name plain some = bare_at (entity_type d name) name refl (λ none. some (kind_choices d name plain ∙ ap (map (uid_of name)) none))
+
+  -- no type of actions is enumerated
+  acting_choices : (name : List ℕ) → is_action_type d name ≡ true → ids_of d name ≡ []
+  acting_choices name acts = by (entity_type d name) refl
+    where
+      by : (o : Option EntityType) → entity_type d name ≡ o → unwrap_or (option_map (λ (x : EntityType). x.choices) o) [] ≡ []
+      by None e = refl
+      by (Some x) e =
+          let both : true ≡ false = sym acts ∙ no_action d lawful name (ap (λ (o : Option EntityType). is_some o) e) in
+          absurd cc
+
+  -- what passes the test by those that its type lists is a choice of the type
+  pub choice_from : (u : Uid) → is_choice (ids_in (choices_of d u.type_name)) u.id ≡ true → IsChoice d u
+  choice_from u h = by (is_action_type d u.type_name) refl
+    where
+      by : (b : Bool) → is_action_type d u.type_name ≡ b → IsChoice d u
+      by true e = ap (λ (ids : List (List ℕ)). is_choice ids u.id) (acting_choices u.type_name e)
+      by false e = ap (λ (ids : List (List ℕ)). is_choice ids u.id) (sym (plain_ids d u.type_name e)) ∙ h
+
+  none_but : (us : List Uid) → ((us ≡ [] → ⊥) → ⊥) → us ≡ []
+  none_but [] h = refl
+  none_but (u ∷ us) h = absurd (h (λ none. cc))
+
+  -- a type below another lists no entities but actions
+  pub below_lists : (name above : List ℕ) (names : List (List ℕ)) → ancestor_types d name ≡ Some names → Contains names above → is_action_type d name ≡ false → choices_of d name ≡ []
+  below_lists name above names e h plain = none_but (choices_of d name) (λ some.
+      let it = bare_type name plain some in
+      let types : option_map (λ (x : EntityType). x.ancestors) (entity_type d name) ≡ Some names =
+      ap (λ (b : Bool). cond b (Some (in_order (types_above d.actions name))) (option_map (λ (x : EntityType). x.ancestors) (entity_type d name))) (sym plain) ∙ e in
+      let own : it.type.ancestors ≡ names = same_some (sym (ap (option_map (λ (x : EntityType). x.ancestors)) it.found) ∙ types) in
+      contains_nothing above (subst (λ (ns : List (List ℕ)). Contains ns above) (sym own ∙ it.bare.apart) h))
+
+  -- and one with tags none at all
+  pub tagged_lists : (name : List ℕ) (t : Ty) → tags_of d name ≡ Some t → choices_of d name ≡ []
+  tagged_lists name t e = none_but (choices_of d name) (λ some. by (is_action_type d name) refl some)
+    where
+      tags_at : Bool → Option Ty
+      tags_at b = cond b None (option_and_then (λ (x : EntityType). x.tags) (entity_type d name))
+
+      by : (b : Bool) → is_action_type d name ≡ b → (choices_of d name ≡ [] → ⊥) → ⊥
+      by true f some = let both : None ≡ Some t = sym (ap tags_at f) ∙ e in absurd cc
+      by false f some =
+          let it = bare_type name f some in
+          let both : None ≡ Some t = sym (ap tags_at f ∙ ap (option_and_then (λ (x : EntityType). x.tags)) it.found ∙ it.bare.tagless) ∙ e in
+          absurd cc
+
+  pub listed_below : (name above : List ℕ) (names : List (List ℕ)) → ancestor_types d name ≡ Some names → Contains names above → (u : Uid) → Contains (choices_of d name) u → IsChosen name (action_uids d) u
+  listed_below name above names e h u there = by (listed_of d name u there)
+    where
+      by : IsListedOf d name u → IsChosen name (action_uids d) u
+      by it = kind_is it.kind
+        where
+          kind_is : IsListedAs d name u → IsChosen name (action_uids d) u
+          kind_is (as_action acts among) = record { among = among; named = it.named }
+          kind_is (as_choice plain among) = absurd (contains_nothing u (subst (λ (us : List Uid). Contains us u) (below_lists name above names e h plain) there))
 
   -- ---- types of what is stored
 
@@ -160,9 +260,10 @@ module _ (d : Declarations) (lawful : IsLawful d) where
   inner t.String h = at_type t.String ((in_String (IsSortLevel d)).1 tt)
   inner t.Decimal h = at_type t.Decimal ((in_Decimal (IsSortLevel d)).1 tt)
   inner t.Ip h = at_type t.Ip ((in_Ip (IsSortLevel d)).1 tt)
-  inner (t.Entity name) h =
-      let declared = of_type.every_level (IsTypeLevel d) (t.Entity name) h in
-      at_type (t.Entity name) ((in_Entity (IsSortLevel d) name []).1 (inl declared, sym (no_choices d name (no_action d lawful name declared))))
+  inner (t.Entity kind) h =
+      let declared = of_type.every_level (IsTypeLevel d) (t.Entity kind) h in
+      at_type (t.Entity kind)
+      ((in_Entity (IsSortLevel d) kind.name (uids_of kind)).1 (inl declared.0, kind_uids d kind (no_action d lawful kind.name declared.0) declared.1))
   inner (t.Set k) h = at_type (t.Set k.0) ((in_Set (IsSortLevel d) (sort_of k.0)).1 (no_option k.0, k.1 (of_type.every_member (IsTypeLevel d) k.0 h)))
   inner (t.Record ks) h =
       let here = of_type.every_level (IsTypeLevel d) (t.Record (attributes_of ks)) h in

@@ -7,13 +7,14 @@ use Rattle.std.specs.Map.{lookup, keys_of}
 use Rattle.std.specs.Str.{bytes_eq}
 use Rattle.std.proofs.lemmas.Bool.{false≢true}
 use Rattle.std.proofs.lemmas.Map.Views.{Contains-from_lookup}
+use Rattle.sc_laws.proofs.BoolLaws.{and_first}
 use Rattle.sc_lists.proofs.ListLaws.{all_element}
 use Rattle.sc_lists.proofs.TextLaws.{bytes_eq_true}
 use Rattle.sc_names.specs.declared.uid.Uid.{Uid}
 use Rattle.sc_names.specs.Uids.{text_cmp}
-use Rattle.sc_schema.specs.declared.declarations.Action.{Action}
+use Rattle.sc_schema.specs.declared.ty.EntityKind.{EntityKind}
 use Rattle.sc_schema.specs.declared.declarations.Env.{Env}
-use Rattle.sc_schema.specs.Declarations.{Declarations, action_uids}
+use Rattle.sc_schema.specs.Declarations.{Declarations}
 use Rattle.sc_schema.specs.Lawful.{IsLawful}
 use Rattle.sc_schema.proofs.LawfulLaws.{ascii_text}
 use Rattle.sc_sorts.specs.declared.sort.Sort.{Sort}
@@ -33,6 +34,7 @@ use Rattle.sc_values.specs.Proper.{IsProperLevel}
 use Rattle.sc_values.specs.Records.{field}
 use Rattle.sc_values.proofs.EveryLaws as every
 use Rattle.sc_world.specs.declared.world.World.{World}
+use Rattle.sc_world.specs.Choices.{is_choice}
 use Rattle.sc_world.specs.Conforms.{is_entity_of}
 use Rattle.sc_world.specs.Stores.{stored}
 use Rattle.sc_world.specs.WellFormed.{IsStored, IsWellFormed}
@@ -42,10 +44,11 @@ use Rattle.sc_terms.specs.Trees.{Tree, leaf, one, two, choice, many, Trees, list
 use Rattle.sc_terms.specs.TreeSorts.{tree_sort}
 use Rattle.sc_terms.specs.Values.{Val, it, value_in, uid_in, text_in, uid_seen, record_in, fields_seen, option_in, field_seen, field_value, held_value, two_value, val, vals, is_maybe, HaveKinds, HasKinds}
 use Rattle.sc_terms.specs.Values as values
-use Rattle.sc_term_laws.specs.Fitting.{IsOfSort, NamesKnownLevel, Fits, as_value, as_option}
+use Rattle.sc_term_laws.specs.Fitting.{kind_listed, IsOfSort, NamesKnownLevel, Fits, as_value, as_option}
 use Rattle.sc_term_laws.specs.Judging.{IsTermOf, HaveSort, HaveFields, IsArithmetic, IsOverflow, IsTestOfSets, IsPick}
 use Rattle.sc_term_laws.specs.Judging as judged
 use Rattle.sc_term_laws.specs.LawfulSorts.{IsDeclared, IsSortLevel, IsSortOf}
+use Rattle.sc_term_laws.proofs.ChoicesLaws.{listed_choice}
 use Rattle.sc_term_laws.proofs.FitLaws.{field_is_of, field_may_lack}
 use Rattle.sc_term_laws.proofs.FitVals.{fits_at, no_option_at, yes_fits, long_fits, wrapped_fits, not_fits, and_fits, or_fits, choice_fits, equal_fits}
 use Rattle.sc_term_laws.proofs.FitSets.{set_ascends, set_each, set_fits, value_of, members_fit, least_fits}
@@ -53,7 +56,7 @@ use Rattle.sc_term_laws.proofs.FitRecords.{HaveVals, no_val, with_val, record_fi
 use Rattle.sc_term_laws.proofs.FitDefaults.{entity_of, string_of, decimal_of, address_of, default_is, default_fits}
 use Rattle.sc_term_laws.proofs.FitEntities.{stored_declared, stored_fits, context_fits, attributes_fit, tag_fits, keys_fit, ancestors_fit}
 use Rattle.sc_term_laws.proofs.JudgingLaws.{sort_is, field_of_record, held_of, member_of}
-use Rattle.sc_term_laws.proofs.SortsLawful.{action_of, above_declared, attrs_lawful, tags_lawful, context_lawful, type_lawful, declared_action, declared_text}
+use Rattle.sc_term_laws.proofs.SortsLawful.{above_declared, attrs_lawful, tags_lawful, context_lawful, type_lawful, listed_declared, declared_text}
 use Rattle.sc_term_laws.proofs.TestLaws.{option_told}
 
 module _ (d : Declarations) (env : Env) (written : List Uid) (w : World) (lawful : IsLawful d) (well : IsWellFormed d env written w) where
@@ -76,11 +79,6 @@ module _ (d : Declarations) (env : Env) (written : List Uid) (w : World) (lawful
 
   written_stored : (u : Uid) → Contains written u → IsStored w.store u
   written_stored u h = all_element (IsStored w.store) written u well.closed.written h
-
-  action_stored : (u : Uid) → Contains (action_uids d) u → IsStored w.store u
-  action_stored u h =
-      let a = action_of d lawful u h in
-      subst (IsStored w.store) a.2 (all_element (λ (b : Action). IsStored w.store b.uid) d.actions a.0 well.declared_actions a.1)
 
   declared_as : (u : Uid) (name : List ℕ) → u.type_name ≡ name → IsStored w.store u → IsDeclared d name
   declared_as u name e h = subst (IsDeclared d) e (stored_declared d env written w lawful well u h)
@@ -105,7 +103,7 @@ module _ (d : Declarations) (env : Env) (written : List Uid) (w : World) (lawful
     sort_lawful _ _ (judged.of_decimal_number n h) = (in_Decimal (IsSortLevel d)).1 tt
     sort_lawful _ _ (judged.of_address ip h) = (in_Ip (IsSortLevel d)).1 tt
     sort_lawful _ _ (judged.of_uid u (inl h)) = entity_lawful u.type_name (declared_as u u.type_name refl (written_stored u h))
-    sort_lawful _ _ (judged.of_uid u (inr h)) = entity_lawful u.type_name (declared_action d lawful u h)
+    sort_lawful _ _ (judged.of_uid u (inr h)) = entity_lawful u.type_name (listed_declared d lawful u h).type_declared
     sort_lawful _ _ (judged.of_default name h e) = (in_Entity (IsSortLevel d) name []).1 (inl h, sym e)
     sort_lawful _ _ (judged.of_none k h) = (in_Option (IsSortLevel d) k).1 h
     sort_lawful _ _ judged.of_principal = entity_lawful env.principal (declared_as w.request.principal env.principal well.request.principal well.closed.principal)
@@ -156,15 +154,15 @@ module _ (d : Declarations) (env : Env) (written : List Uid) (w : World) (lawful
   as_default : (k : Sort) → Lawful k → Of k (default_of k)
   as_default k h = default_is d w.store lawful k h
 
-  entity_at : (name : List ℕ) (x : Value-F Value) → is_entity_of name x ≡ true → (uid_seen x).type_name ≡ name
-  entity_at name (v.Entity u) h = bytes_eq_true u.type_name name h
-  entity_at name _ h = absurd cc
+  entity_at : (kind : EntityKind) (x : Value-F Value) → is_entity_of kind x ≡ true → (uid_seen x).type_name ≡ kind.name
+  entity_at kind (v.Entity u) h = bytes_eq_true u.type_name kind.name (and_first (bytes_eq u.type_name kind.name) (is_choice kind.choices u.id) h)
+  entity_at kind _ h = absurd cc
 
   -- the entity that a value of an entity sort is
   entity_named : (name : List ℕ) (us : List Uid) (x : Val) → FitsVal (sort.Entity name us) x → (uid_in x).type_name ≡ name
   entity_named name us x h =
       let it_is = value_of d w.store (sort.Entity name us) x (no_option_at (sort.Entity name us) (s.Entity name us) (out_Entity name us) refl) h in
-      entity_at name (out-Value (value_in x)) (ap (λ (z : Value → Bool). z (value_in x)) (sym (fits_at (sort.Entity name us) (s.Entity name us) (rolls-Entity name us))) ∙ it_is.of_sort)
+      entity_at (kind_listed name us) (out-Value (value_in x)) (ap (λ (z : Value → Bool). z (value_in x)) (sym (fits_at (sort.Entity name us) (s.Entity name us) (rolls-Entity name us))) ∙ it_is.of_sort)
 
   arithmetic_fits : (o : BinaryOp) (j : Sort) (x y : Val) → IsArithmetic o → FitsVal sort.Long (two_value o j x y w)
   arithmetic_fits _ j x y (judged.of_sum _ judged.addition) = wrapped_fits d w.store _
@@ -236,14 +234,17 @@ module _ (d : Declarations) (env : Env) (written : List Uid) (w : World) (lawful
     value_fits _ _ (judged.of_text x h) = as_value (value.String x) (no_option_at sort.String s.String out_String refl) (string_of d w.store x h)
     value_fits _ _ (judged.of_decimal_number n h) = as_value (value.Decimal n) (no_option_at sort.Decimal s.Decimal out_Decimal refl) (decimal_of d w.store n h)
     value_fits _ _ (judged.of_address ip h) = as_value (value.Ip ip) (no_option_at sort.Ip s.Ip out_Ip refl) (address_of d w.store ip h)
-    value_fits _ _ (judged.of_uid u (inl h)) = stored_fits d env written w lawful well u.type_name (choices_of d u.type_name) u refl (written_stored u h)
-    value_fits _ _ (judged.of_uid u (inr h)) = stored_fits d env written w lawful well u.type_name (choices_of d u.type_name) u refl (action_stored u h)
+    value_fits _ _ (judged.of_uid u (inl h)) = stored_fits d env written w lawful well u.type_name u refl (written_stored u h)
+    value_fits _ _ (judged.of_uid u (inr h)) =
+        let us = choices_of d u.type_name in
+        as_value (value.Entity u) (no_option_at (sort.Entity u.type_name us) (s.Entity u.type_name us) (out_Entity u.type_name us) refl)
+        (entity_of d w.store u.type_name us u refl (listed_choice us u h) (listed_declared d lawful u h).text (inr (inr h)))
     value_fits _ _ (judged.of_default name h e) =
         as_value (value.Entity (default_uid name [])) (no_option_at (sort.Entity name []) (s.Entity name []) (out_Entity name []) refl)
-        (entity_of d w.store name [] (default_uid name []) refl (declared_text d lawful name (inl h), ascii_text [] refl) (inr (ap (default_uid name) (sym e))))
+        (entity_of d w.store name [] (default_uid name []) refl refl (declared_text d lawful name (inl h), ascii_text [] refl) (inr (inl (ap (default_uid name) (sym e)))))
     value_fits _ _ (judged.of_none k h) = as_option None (option_told (sort.Option k) k refl) tt
-    value_fits _ _ judged.of_principal = stored_fits d env written w lawful well env.principal _ w.request.principal well.request.principal well.closed.principal
-    value_fits _ _ judged.of_resource = stored_fits d env written w lawful well env.resource _ w.request.resource well.request.resource well.closed.resource
+    value_fits _ _ judged.of_principal = stored_fits d env written w lawful well env.principal w.request.principal well.request.principal well.closed.principal
+    value_fits _ _ judged.of_resource = stored_fits d env written w lawful well env.resource w.request.resource well.request.resource well.closed.resource
     value_fits _ _ (judged.of_context t e) = context_fits d env written w lawful well t e
     value_fits _ _ (judged.of_not a h e) = not_fits d w.store (val a w) (value_fits sort.Bool a h)
     value_fits _ _ (judged.of_and a b g h e) = and_fits d w.store (val a w) (val b w) (value_fits sort.Bool a g) (value_fits sort.Bool b h)
@@ -265,7 +266,7 @@ module _ (d : Declarations) (env : Env) (written : List Uid) (w : World) (lawful
         let own = ap name_in (out_Entity above (choices_of d above)) in
         let u = uid_in (val a w) in
         subst (λ (n : List ℕ). FitsVal (sort.Set (entity_sort d above)) (it (values.ancestors_value n (stored u w.store)))) (sym own)
-        (ancestors_fit d env written w lawful well above (choices_of d above) u (stored u w.store) refl)
+        (ancestors_fit d env written w lawful well above u (stored u w.store) refl)
     value_fits _ _ (judged.of_keys name t a e g) = keys_fit d env written w lawful well (uid_in (val a w)) (stored (uid_in (val a w)) w.store) refl
     value_fits _ _ (judged.of_tag name t a x e g h) =
         tag_fits d env written w lawful well name t (text_in (val x w)) (uid_in (val a w)) (stored (uid_in (val a w)) w.store) (entity_named name (choices_of d name) (val a w) (value_fits (entity_sort d name) a g)) e refl

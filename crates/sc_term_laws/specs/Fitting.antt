@@ -1,15 +1,16 @@
 -- Which values fit a sort.
-use Rattle.std.specs.Prelude.{◌≡◌, ◌&&◌, ◌⊎◌, ⊤, ℕ, List, Bool, true, false, Option, Some, None, IsTrue, IfSome}
+use Rattle.std.specs.Prelude.{◌≡◌, ◌&&◌, ◌⊎◌, ⊤, ℕ, List, map, Bool, true, false, Option, Some, None, IsTrue, IfSome}
 use Rattle.std.specs.List.{list_all, list_any}
 use Rattle.std.specs.Str.{bytes_eq}
 use Rattle.sc_names.specs.declared.uid.Uid.{Uid}
 use Rattle.sc_schema.specs.declared.declarations.Env.{Env}
+use Rattle.sc_schema.specs.declared.ty.EntityKind.{EntityKind}
 use Rattle.sc_schema.specs.Declarations.{Declarations}
 use Rattle.sc_schema.specs.Lawful.{IsLawful}
 use Rattle.sc_sorts.specs.declared.sort.Sort.{Sort, Sort-F, fold-Sort}
 use Rattle.sc_sorts.specs.declared.sort.Sort.TheOpen as s
 use Rattle.sc_sorts.specs.Defaults.{is_option, is_option_level, default_uid}
-use Rattle.sc_sorts.specs.Entities.{choices_of}
+use Rattle.sc_sorts.specs.Entities.{choices_of, IsListed}
 use Rattle.sc_values.specs.declared.value.Value.{Value, Value-F, out-Value, every-Value}
 use Rattle.sc_values.specs.declared.value.Value.TheOpen as v
 use Rattle.sc_values.specs.Proper.{IsProper}
@@ -44,13 +45,17 @@ abbrev pub is_record_of : List (List ℕ × Seen) → Value-F Value → Bool
 is_record_of shape (v.Record fields) = has_fields shape fields
 is_record_of shape _ = false
 
+-- a type of entities by those that its sort lists
+abbrev pub kind_listed : List ℕ → List Uid → EntityKind
+kind_listed name choices = record { name = name; choices = map (λ (u : Uid). u.id) choices }
+
 abbrev pub fits_step : Sort-F Seen → Test
 fits_step s.Bool x = is_bool (out-Value x)
 fits_step s.Long x = is_long (out-Value x)
 fits_step s.String x = is_string (out-Value x)
 fits_step s.Decimal x = is_decimal (out-Value x)
 fits_step s.Ip x = is_ip (out-Value x)
-fits_step (s.Entity name choices) x = is_entity_of name (out-Value x)
+fits_step (s.Entity name choices) x = is_entity_of (kind_listed name choices) (out-Value x)
 fits_step (s.Set member) x = is_set_of member.1 (out-Value x)
 fits_step (s.Record fields) x = is_record_of fields (out-Value x)
 fits_step (s.Option held) x = held.1 x
@@ -62,9 +67,9 @@ seen_step x = (is_option_level Seen x, fits_step x)
 unfoldable pub fits : Sort → Value → Bool
 fits x = (fold-Sort Seen seen_step x).1
 
--- it is stored, or the default of its type
+-- it is stored, the default of its type, or listed by its type
 abbrev pub IsKnown : Declarations → Entities → Uid → Type 0
-IsKnown d es u = IsStored es u ⊎ (u ≡ default_uid u.type_name (choices_of d u.type_name))
+IsKnown d es u = IsStored es u ⊎ ((u ≡ default_uid u.type_name (choices_of d u.type_name)) ⊎ IsListed d u)
 
 -- an entity that a value names, but for the values inside it, is so
 abbrev pub NamesKnownLevel : Declarations → Entities → Value-F Value → Type 0
@@ -74,7 +79,7 @@ NamesKnownLevel d es _ = ⊤
 abbrev pub NamesKnown : Declarations → Entities → Value → Type 0
 NamesKnown d es = every-Value (NamesKnownLevel d es)
 
--- of the sort, made of values, and each entity that it names is stored or is the default of its type
+-- of the sort, made of values, and each entity that it names is stored, the default of its type, or listed by it
 pub record IsOfSort (d : Declarations) (es : Entities) (k : Sort) (x : Value) : Type 0 where
   pub of_sort : IsTrue (fits k x)
   pub proper : IsProper x

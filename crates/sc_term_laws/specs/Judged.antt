@@ -7,9 +7,9 @@ use Rattle.std.specs.Str.{IsUtf8}
 use Rattle.sc_ip.specs.Addresses.{IsIp}
 use Rattle.sc_names.specs.declared.uid.Uid.{Uid}
 use Rattle.sc_schema.specs.declared.declarations.Env.{Env}
-use Rattle.sc_schema.specs.Declarations.{Declarations, action_uids}
+use Rattle.sc_schema.specs.Declarations.{Declarations}
 use Rattle.sc_schema.specs.Lawful.{IsEntityType}
-use Rattle.sc_sorts.specs.Entities.{choices_of}
+use Rattle.sc_sorts.specs.Entities.{choices_of, IsListed}
 use Rattle.sc_sorts.specs.declared.node.Literal.{Literal}
 use Rattle.sc_sorts.specs.declared.node.Literal.TheVariants as literal
 use Rattle.sc_sorts.specs.declared.node.UnaryOp.{UnaryOp}
@@ -49,11 +49,11 @@ is_choice xs good c a b =
 
 -- ---- literals
 
--- policies write an entity, or it is a declared action
+-- policies write an entity, or its type lists it: a declared action, or a choice of an enumerated type
 abbrev pub IsWritten : Declarations → List Uid → Uid → Type 0
-IsWritten d written u = Contains written u ⊎ Contains (action_uids d) u
+IsWritten d written u = Contains written u ⊎ IsListed d u
 
--- the default of a declared type that is no one of actions
+-- the default of a declared type that lists no entities
 abbrev pub IsNameless : Declarations → Uid → Type 0
 IsNameless d u = (u.id ≡ []) × IsEntityType d u.type_name × (choices_of d u.type_name ≡ [])
 

@@ -9,12 +9,12 @@ use Rattle.sc_names.specs.declared.uid.Uid.{Uid}
 use Rattle.sc_pattern.specs.declared.part.Part.{Part}
 use Rattle.sc_schema.specs.declared.declarations.Env.{Env}
 use Rattle.sc_schema.specs.declared.ty.Ty.{Ty}
-use Rattle.sc_schema.specs.Declarations.{Declarations, action_uids, attrs_of, tags_of, ancestor_types, context_of}
+use Rattle.sc_schema.specs.Declarations.{Declarations, attrs_of, tags_of, ancestor_types, context_of}
 use Rattle.sc_sorts.specs.declared.sort.Sort.{Sort}
 use Rattle.sc_sorts.specs.declared.sort.Sort.TheVariants as sort
 use Rattle.sc_schema.specs.Lawful.{IsEntityType}
 use Rattle.sc_sorts.specs.Defaults.{default_uid}
-use Rattle.sc_sorts.specs.Entities.{choices_of, entity_sort}
+use Rattle.sc_sorts.specs.Entities.{choices_of, IsListed, entity_sort}
 use Rattle.sc_sorts.specs.OfTypes.{sort_of}
 use Rattle.sc_sorts.specs.declared.node.Leaf.TheVariants as leafs
 use Rattle.sc_sorts.specs.declared.node.Literal.TheVariants as literal
@@ -62,8 +62,8 @@ pub data IsPick : BinaryOp → Type 0 where
   intersection : IsPick binary.CommonPick
 
 mutual
-  -- in an environment of a schema, with the entities that policies write. An entity is one of these, a declared action,
-  -- or the default of its type
+  -- in an environment of a schema, with the entities that policies write. An entity is one of these, one that its type
+  -- lists, or the default of its type
   pub data IsTermOf (s : Declarations) (env : Env) (written : List Uid) : Sort → Tree → Type 0 where
     of_truth : (b : Bool) → IsTermOf s env written sort.Bool (truth_term b)
     of_number : (n : _) → FitsSigned w64 n → IsTermOf s env written sort.Long (literal_term (literal.Long n))
@@ -71,7 +71,7 @@ mutual
     of_decimal_number : (n : _) → FitsSigned w64 n
         → IsTermOf s env written sort.Decimal (literal_term (literal.Decimal n))
     of_address : (ip : Ip) → IsIp ip → IsTermOf s env written sort.Ip (literal_term (literal.Ip ip))
-    of_uid : (u : Uid) → Contains written u ⊎ Contains (action_uids s) u
+    of_uid : (u : Uid) → Contains written u ⊎ IsListed s u
         → IsTermOf s env written (entity_sort s u.type_name)
         (literal_term (literal.Entity u (choices_of s u.type_name)))
     of_default : (name : List ℕ) → IsEntityType s name → choices_of s name ≡ []

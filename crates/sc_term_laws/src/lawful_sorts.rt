@@ -14,8 +14,8 @@ use sc_schema::{Schema, attrs_of};
 use sc_sorts::Sort;
 use std::alloc::{AllocError, Global};
 
-/// Whether a sort is that of values of a schema: it names declared types, lists the actions of a
-/// type of actions, no set and no option holds options, and names of fields ascend.
+/// Whether a sort is that of values of a schema: it names declared types, lists the entities
+/// that they list, no set and no option holds options, and names of fields ascend.
 #[cycle(lawful)]
 pub fn is_lawful_sort(alloc: Global, schema: &Schema, sort: &Sort) -> Result<bool, AllocError>
     ensures { IfOk result (λ b. IsTrue b ↔ IsSortOf schema.now sort.now) }

@@ -1,15 +1,18 @@
 //! Whether a leaf is a term.
-ghost use Rattle.std.specs.Prelude.{◌≡◌, ◌↔◌, ◌⊎◌, [], IsTrue, IfOk, Contains, FitsSigned};
+ghost use Rattle.std.specs.Prelude.{◌≡◌, ◌↔◌, ◌⊎◌, [], is_some, IsTrue, IfOk, Contains, FitsSigned};
 ghost use Rattle.std.specs.Int.{w64};
+ghost use Rattle.std.specs.List.{list_any};
+ghost use Rattle.std.specs.Ordering.{is_eq};
 ghost use Rattle.sc_ip.specs.Addresses.{IsIp};
+ghost use Rattle.sc_names.specs.declared.uid.Uid.{Uid as AnyUid};
+ghost use Rattle.sc_names.specs.Uids.{uid_cmp};
 ghost use Rattle.sc_sorts.specs.NodeSorts.{leaf_sort};
-ghost use Rattle.sc_schema.specs.Declarations.{action_uids};
-ghost use Rattle.sc_schema.specs.Lawful.{IsEntityType};
-ghost use Rattle.sc_sorts.specs.Entities.{choices_of as choices_are, entity_sort as sort_of_entities};
+ghost use Rattle.sc_schema.specs.Declarations.{attrs_of};
+ghost use Rattle.sc_sorts.specs.Entities.{entity_sort as sort_of_entities};
 ghost use Rattle.sc_sorts.specs.contracts.sort.SortPartialEq.TheImpl.{ghosts as sorts};
 ghost use Rattle.sc_terms.specs.Trees.{leaf as leaf_tree};
 ghost use Rattle.sc_term_laws.specs.Judging.{IsTermOf};
-ghost use Rattle.sc_term_laws.specs.Judged.{IsLiteralOf, IsNameless, IsWritten, IsEntityLiteral};
+ghost use Rattle.sc_term_laws.specs.Judged.{IsLiteralOf, IsEntityLiteral};
 
 use crate::lawful_sorts::is_lawful_held;
 use crate::names::is_text;
@@ -17,8 +20,8 @@ use crate::schema_sorts::is_sort_of;
 use sc_decimal::Decimal;
 use sc_ip::Ip;
 use sc_lists::Seq;
-use sc_names::{Lits, Name, Uid};
-use sc_schema::{Env, Schema, action_ancestors, attrs_of, context_of, is_action_type};
+use sc_names::{Lits, Name, Uid, compare};
+use sc_schema::{Env, Schema, attrs_of, context_of};
 use sc_sorts::{Leaf, Literal, Sort, choices_of, entity_sort};
 use std::alloc::{AllocError, Global};
 
@@ -112,10 +115,10 @@ fn entity_test(
     if !are_same(choices.as_slice(), chosen.as_slice()) {
         return Ok(false);
     }
-    if is_written(schema, lits, uid) {
+    if is_written(lits, uid, &chosen) {
         return Ok(true);
     }
-    Ok(is_nameless(schema, uid))
+    Ok(is_nameless(schema, uid, &chosen))
 }
 
 /// Whether two lists are of the same uids, in the same order.
@@ -126,32 +129,39 @@ fn are_same(a: &[Uid], b: &[Uid]) -> bool
     a == b
 }
 
-/// Whether policies write an entity, or it is a declared action.
+/// Whether policies write an entity, or it is among those that its type lists.
 #[tactic(auto, using(crate::proofs::ToldLaws::either_first, crate::proofs::ToldLaws::either_second))]
-fn is_written(schema: &Schema, lits: &Lits, uid: &Uid) -> bool
-    ensures { IsTrue result ↔ IsWritten schema.now lits.now uid.now }
+fn is_written(lits: &Lits, uid: &Uid, chosen: &Seq<Uid>) -> bool
+    ensures { IsTrue result ↔ (Contains lits.now uid.now ⊎ Contains chosen.now uid.now) }
 {
     if lits.contains(uid) {
         return true;
     }
-    is_declared_action(schema, uid)
+    is_listed(chosen.as_slice(), uid)
 }
 
-fn is_declared_action(schema: &Schema, uid: &Uid) -> bool
-    ensures { IsTrue result ↔ Contains (action_uids schema.now) uid.now }
+fn is_listed(uids: &[Uid], uid: &Uid) -> bool
+    ensures { IsTrue result ↔ Contains uids.now uid.now }
 {
-    action_ancestors(schema, uid).is_some()
+    is_among(uids, uid)
 }
 
-/// Whether an entity of a declared type, no one of actions, has the empty id.
+fn is_among(uids: &[Uid], uid: &Uid) -> bool
+    ensures { result ≡ list_any (λ (one : AnyUid). is_eq (uid_cmp uid.now one)) uids.now }
+{
+    uids.iter().any(|one| compare(uid, one).is_eq())
+}
+
+/// Whether an entity of a declared type that lists none has the empty id.
 #[tactic(auto, using(crate::proofs::ToldLaws::first_fails, crate::proofs::ToldLaws::first_holds))]
-fn is_nameless(schema: &Schema, uid: &Uid) -> bool
-    ensures { IsTrue result ↔ IsNameless schema.now uid.now }
+fn is_nameless(schema: &Schema, uid: &Uid, chosen: &Seq<Uid>) -> bool
+    ensures { IsTrue result ↔
+        ((uid.now.id ≡ []) × (chosen.now ≡ []) × IsTrue (is_some (attrs_of schema.now uid.now.type_name))) }
 {
     if !is_empty_text(uid) {
         return false;
     }
-    is_entity_type(schema, &uid.type_name)
+    is_unlisted(schema, &uid.type_name, chosen.as_slice())
 }
 
 #[tactic(auto, using(crate::proofs::ToldLaws::empty_told))]
@@ -161,13 +171,26 @@ fn is_empty_text(uid: &Uid) -> bool
     uid.id.as_str().is_empty()
 }
 
-/// Whether a type is declared, and no one of actions.
-#[tactic(auto, using(crate::proofs::ChoicesLaws::action_type_told))]
-fn is_entity_type(schema: &Schema, name: &Name) -> bool
-    ensures { IsTrue result ↔ (IsEntityType schema.now name.now × (choices_are schema.now name.now ≡ [])) }
+/// Whether a type is declared, and nothing is listed of it.
+#[tactic(auto, using(crate::proofs::ToldLaws::first_fails, crate::proofs::ToldLaws::first_with))]
+fn is_unlisted(schema: &Schema, name: &Name, chosen: &[Uid]) -> bool
+    ensures { IsTrue result ↔ ((chosen.now ≡ []) × IsTrue (is_some (attrs_of schema.now name.now))) }
 {
-    if is_action_type(schema, name) {
+    if !is_empty_list(chosen) {
         return false;
     }
+    is_typed(schema, name)
+}
+
+#[tactic(auto, using(crate::proofs::ToldLaws::empty_told))]
+fn is_empty_list(uids: &[Uid]) -> bool
+    ensures { IsTrue result ↔ uids.now ≡ [] }
+{
+    uids.is_empty()
+}
+
+fn is_typed(schema: &Schema, name: &Name) -> bool
+    ensures { result ≡ is_some (attrs_of schema.now name.now) }
+{
     attrs_of(schema, name).is_some()
 }

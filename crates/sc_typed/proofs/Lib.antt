@@ -6,3 +6,4 @@ pub mod OutcomeLaws
 pub mod CapabilityLaws
 pub mod LayerLaws
 pub mod SameLaws
+pub mod KindLaws

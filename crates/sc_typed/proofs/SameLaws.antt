@@ -74,7 +74,7 @@ one_literal (literal.String a) _ h = absurd (false≢true h)
 one_literal (literal.Entity a) _ h = absurd (false≢true h)
 
 -- lists whose elements are one by one the same
-one_list : {X : Type 0} (eq : X → X → Bool) → ((x y : X) → eq x y ≡ true → x ≡ y) → (xs ys : List X) → pointwise eq xs ys ≡ true → xs ≡ ys
+pub one_list : {X : Type 0} (eq : X → X → Bool) → ((x y : X) → eq x y ≡ true → x ≡ y) → (xs ys : List X) → pointwise eq xs ys ≡ true → xs ≡ ys
 one_list eq one [] [] h = refl
 one_list eq one [] (y ∷ ys) h = absurd (false≢true h)
 one_list eq one (x ∷ xs) [] h = absurd (false≢true h)

@@ -1,7 +1,9 @@
 -- Types: of which kind one is, which type two join to, and which attributes the objects of a type have.
 use Rattle.std.specs.Prelude.{ℕ, List, [], ◌∷◌, Bool, true, false, ◌&&◌, if◌then◌else◌, Option, Some, None, option_map, unwrap_or, map, find}
 use Rattle.std.specs.Option.{option_and_then}
+use Rattle.std.specs.Cmp.Lexicographic.{pointwise}
 use Rattle.std.specs.Str.{bytes_eq}
+use Rattle.sc_schema.specs.declared.ty.EntityKind.{EntityKind}
 use Rattle.sc_schema.specs.declared.ty.Presence.{Presence}
 use Rattle.sc_schema.specs.declared.ty.Presence.TheVariants.{Required, Optional}
 use Rattle.sc_schema.specs.declared.ty.Ty.{Ty, Ty-F, out-Ty, fold-Ty}
@@ -78,9 +80,17 @@ is_ip x = is_ip_in (out-Ty x)
 abbrev pub is_record : Ty → Bool
 is_record x = is_record_in (out-Ty x)
 
+-- a type of entities
+abbrev pub entity_kind_in : Ty-F Ty → Option EntityKind
+entity_kind_in (t.Entity kind) = Some kind
+entity_kind_in _ = None
+
+abbrev pub entity_kind : Ty → Option EntityKind
+entity_kind x = entity_kind_in (out-Ty x)
+
 -- the type's name, of entities
 abbrev pub entity_name_in : Ty-F Ty → Option (List ℕ)
-entity_name_in (t.Entity name) = Some name
+entity_name_in (t.Entity kind) = Some kind.name
 entity_name_in _ = None
 
 abbrev pub entity_name : Ty → Option (List ℕ)
@@ -96,7 +106,7 @@ member x = member_in (out-Ty x)
 
 -- the type's name, of entities or of the members of a set
 abbrev pub group_in : Ty-F Ty → Option (List ℕ)
-group_in (t.Entity name) = Some name
+group_in (t.Entity kind) = Some kind.name
 group_in (t.Set m) = entity_name m
 group_in _ = None
 
@@ -129,9 +139,9 @@ same_presence Optional Optional = true
 abbrev pub only_if : Bool → Ty → Option Ty
 only_if b x = if b then Some x else None
 
--- two names of types of entities
-abbrev pub same_name : List ℕ → List ℕ → Option Ty
-same_name a b = only_if (bytes_eq a b) (ty.Entity b)
+-- two types of entities, of one name and with the same choices
+abbrev pub same_kind : EntityKind → EntityKind → Option Ty
+same_kind a b = only_if (bytes_eq a.name b.name && pointwise bytes_eq a.choices b.choices) (ty.Entity b)
 
 -- a field whose type joins another one's, before fields that are joined
 abbrev pub with_front : List ℕ → Presence → Option Ty → Option (List Field) → Option (List Field)
@@ -155,7 +165,7 @@ join_step t.Long y = only_if (is_long y) ty.Long
 join_step t.String y = only_if (is_string y) ty.String
 join_step t.Decimal y = only_if (is_decimal y) ty.Decimal
 join_step t.Ip y = only_if (is_ip y) ty.Ip
-join_step (t.Entity a) y = option_and_then (same_name a) (entity_name y)
+join_step (t.Entity a) y = option_and_then (same_kind a) (entity_kind y)
 join_step (t.Set a) y = option_and_then (λ b. option_map ty.Set (a b)) (member y)
 join_step (t.Record fs) y = option_and_then (λ gs. option_map ty.Record (join_fields fs gs)) (record_fields y)
 
@@ -172,7 +182,7 @@ joining fields = map (λ (f : Field). (f.0, f.1, join f.2)) fields
 
 abbrev pub attributes_in : Declarations → Ty-F Ty → Option (List Field)
 attributes_in s (t.Record fields) = Some fields
-attributes_in s (t.Entity name) = Some (unwrap_or (option_and_then record_fields (attrs_of s name)) [])
+attributes_in s (t.Entity kind) = Some (unwrap_or (option_and_then record_fields (attrs_of s kind.name)) [])
 attributes_in s _ = None
 
 -- the attributes that records or entities of a type may have; none where the type is of neither. Actions have no

@@ -1,10 +1,10 @@
 //! Of which kind a type is.
 ghost use Rattle.std.specs.Prelude.{◌≡◌, option_map};
 ghost use Rattle.std.specs.Option.{option_copied};
-ghost use Rattle.sc_typed.specs.Types.{is_true, is_false, is_either, is_boolean, is_long, is_string, is_decimal, is_ip, is_record, entity_name, member, group, record_fields};
+ghost use Rattle.sc_typed.specs.Types.{is_true, is_false, is_either, is_boolean, is_long, is_string, is_decimal, is_ip, is_record, entity_kind, entity_name, member, group, record_fields};
 
 use sc_names::Name;
-use sc_schema::{Attributes, Ty};
+use sc_schema::{Attributes, EntityKind, Ty};
 
 /// Whether it is that of `true` alone.
 pub fn is_true(ty: &Ty) -> bool
@@ -69,12 +69,22 @@ pub fn is_record(ty: &Ty) -> bool
     matches!(ty, Ty::Record(_))
 }
 
+/// The type of entities that it is, with its choices, where it is one.
+pub fn entity_kind(ty: &Ty) -> Option<&EntityKind>
+    ensures { option_copied result ≡ entity_kind ty.now }
+{
+    match ty {
+        Ty::Entity(kind) => Some(kind),
+        _ => None,
+    }
+}
+
 /// The type's name, where it is one of entities.
 pub fn entity_name(ty: &Ty) -> Option<&Name>
     ensures { option_copied result ≡ entity_name ty.now }
 {
     match ty {
-        Ty::Entity(name) => Some(name),
+        Ty::Entity(kind) => Some(&kind.name),
         _ => None,
     }
 }
@@ -94,7 +104,7 @@ pub fn group(ty: &Ty) -> Option<&Name>
     ensures { option_copied result ≡ group ty.now }
 {
     match ty {
-        Ty::Entity(name) => Some(name),
+        Ty::Entity(kind) => Some(&kind.name),
         Ty::Set(member) => entity_name(member.get()),
         _ => None,
     }

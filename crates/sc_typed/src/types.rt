@@ -1,17 +1,18 @@
 //! Types: the type that two types join to, and attributes.
 ghost use Rattle.std.specs.Prelude.{◌≡◌, ◌&&◌, [], IfOk, option_map, unwrap_or, if◌then◌else◌};
 ghost use Rattle.std.specs.Option.{option_copied, option_and_then};
+ghost use Rattle.std.specs.Cmp.Lexicographic.{pointwise};
 ghost use Rattle.std.specs.Str.{bytes_eq};
 ghost use Rattle.sc_schema.specs.Declarations.{attrs_of};
-ghost use Rattle.sc_typed.specs.Types.{is_true, is_false, is_boolean, truth, only_if, same_name, joining, join, join_fields, same_presence, entity_name, member, record_fields, attributes, attribute, is_required};
+ghost use Rattle.sc_typed.specs.Types.{is_true, is_false, is_boolean, truth, only_if, same_kind, joining, join, join_fields, same_presence, entity_kind, member, record_fields, attributes, attribute, is_required};
 
 use crate::kinds::{
-    entity_name, is_boolean, is_decimal, is_false, is_ip, is_long, is_string, is_true, member,
+    entity_kind, is_boolean, is_decimal, is_false, is_ip, is_long, is_string, is_true, member,
     record_fields,
 };
 use sc_lists::{Seq, Shared, Text};
 use sc_names::Name;
-use sc_schema::{Attributes, Presence, Schema, Ty, attrs_of, no_attributes};
+use sc_schema::{Attributes, Choices, EntityKind, Presence, Schema, Ty, attrs_of, no_attributes};
 use std::alloc::{AllocError, Global};
 
 /// The type of a truth value.
@@ -37,7 +38,7 @@ pub fn join(alloc: Global, a: &Ty, b: &Ty) -> Result<Option<Ty>, AllocError>
         Ty::String => Ok(only_if(is_string(b), Ty::String)),
         Ty::Decimal => Ok(only_if(is_decimal(b), Ty::Decimal)),
         Ty::Ip => Ok(only_if(is_ip(b), Ty::Ip)),
-        Ty::Entity(name) => join_entity(alloc, name, b),
+        Ty::Entity(kind) => join_entity(alloc, kind, b),
         Ty::Set(member) => join_set(alloc, member.get(), b),
         Ty::Record(fields) => join_record(alloc, fields.as_slice(), b),
     }
@@ -68,16 +69,31 @@ fn join_false(b: &Ty) -> Option<Ty>
     only_if(is_boolean(b), Ty::Bool)
 }
 
-fn join_entity(alloc: Global, name: &Name, b: &Ty) -> Result<Option<Ty>, AllocError>
-    ensures { IfOk result (λ o. o ≡ option_and_then (same_name name.now) (entity_name b.now)) }
+fn join_entity(alloc: Global, kind: &EntityKind, b: &Ty) -> Result<Option<Ty>, AllocError>
+    ensures { IfOk result (λ o. o ≡ option_and_then (same_kind kind.now) (entity_kind b.now)) }
 {
-    let Some(other) = entity_name(b) else {
+    let Some(other) = entity_kind(b) else {
         return Ok(None);
     };
-    if name.as_str() != other.as_str() {
+    if !is_same_kind(kind, other) {
         return Ok(None);
     }
     Ok(Some(Ty::Entity(other.try_clone(alloc)?)))
+}
+
+/// Whether two types of entities have one name and the same choices.
+fn is_same_kind(a: &EntityKind, b: &EntityKind) -> bool
+    ensures { result ≡ (bytes_eq a.now.name b.now.name && pointwise bytes_eq a.now.choices b.now.choices) }
+{
+    let named = a.name.as_str() == b.name.as_str();
+    let same = are_same(&a.choices, &b.choices);
+    named && same
+}
+
+fn are_same(a: &Choices, b: &Choices) -> bool
+    ensures { result ≡ pointwise bytes_eq a.now b.now }
+{
+    a.get().as_slice() == b.get().as_slice()
 }
 
 #[cycle(join)]
@@ -162,7 +178,7 @@ pub fn attributes<'s>(schema: &'s Schema, ty: &'s Ty) -> Option<&'s Attributes>
 {
     match ty {
         Ty::Record(fields) => Some(fields),
-        Ty::Entity(name) => Some(declared(schema, name)),
+        Ty::Entity(kind) => Some(declared(schema, &kind.name)),
         _ => None,
     }
 }

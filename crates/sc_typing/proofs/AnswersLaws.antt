@@ -70,7 +70,7 @@ module _ (s : Declarations) (env : Env) where
       → Gives r (record_literal place (map (λ (f : List ℕ × Expr). (f.0, part s env f.1)) seen) known) → Gives r (typing s env x known)
   gives_Record r x place fields seen known at p h = by_rule r x (expr.Record place seen) known _ (at ∙ sym (ap (expr.Record place) p)) (typing_Record s env place seen known) h
 
-  pub gives_Literal : (r : Answer) (x : Expr) (place : Place) (l : Literal) (known : Capabilities) → x ≡ expr.Literal place l → Gives r (gives (literal_typed place l) []) → Gives r (typing s env x known)
+  pub gives_Literal : (r : Answer) (x : Expr) (place : Place) (l : Literal) (known : Capabilities) → x ≡ expr.Literal place l → Gives r (gives (literal_typed s place l) []) → Gives r (typing s env x known)
   gives_Literal r x place l known at h = by_rule r x (expr.Literal place l) known _ at (typing_Literal s env place l known) h
 
   pub gives_Variable : (r : Answer) (x : Expr) (place : Place) (v : Variable) (known : Capabilities) → x ≡ expr.Variable place v → Gives r (gives (typed.Variable place (variable_type s env v) v) []) → Gives r (typing s env x known)

@@ -95,30 +95,30 @@ keeps_both place a b h k known =
 
 -- ---- operators
 
-leaf_keeps : (x : Expr) (y : Expr-F Expr) → roll-Expr y ≡ x → untyped (leaf_in x y) ≡ x
-leaf_keeps x (e.Literal place l) at = untyped_Literal place _ l ∙ (sym (rolls-Literal place l) ∙ at)
-leaf_keeps x _ at = untyped_Skipped x
+leaf_keeps : (s : Declarations) (x : Expr) (y : Expr-F Expr) → roll-Expr y ≡ x → untyped (leaf_in s x y) ≡ x
+leaf_keeps s x (e.Literal place l) at = untyped_Literal place _ l ∙ (sym (rolls-Literal place l) ∙ at)
+leaf_keeps s x _ at = untyped_Skipped x
 
-leaf-keeps : (x : Expr) → untyped (leaf x) ≡ x
-leaf-keeps x = leaf_keeps x (out-Expr x) (roll-out-Expr x)
+leaf-keeps : (s : Declarations) (x : Expr) → untyped (leaf s x) ≡ x
+leaf-keeps s x = leaf_keeps s x (out-Expr x) (roll-out-Expr x)
 
-all_leaves : (xs : List Expr) → map untyped (map leaf xs) ≡ xs
-all_leaves [] = refl
-all_leaves (x ∷ xs) = λ i. leaf-keeps x i ∷ all_leaves xs i
+all_leaves : (s : Declarations) (xs : List Expr) → map untyped (map (leaf s) xs) ≡ xs
+all_leaves s [] = refl
+all_leaves s (x ∷ xs) = λ i. leaf-keeps s x i ∷ all_leaves s xs i
 
-leaves_keep : (x : Expr) (y : Expr-F Expr) → roll-Expr y ≡ x → untyped (leaves_in x y) ≡ x
-leaves_keep x (e.Set place members) at = untyped_Set place _ (map leaf members) ∙ (ap (expr.Set place) (all_leaves members) ∙ (sym (rolls-Set place members) ∙ at))
-leaves_keep x y at = leaf_keeps x y at
+leaves_keep : (s : Declarations) (x : Expr) (y : Expr-F Expr) → roll-Expr y ≡ x → untyped (leaves_in s x y) ≡ x
+leaves_keep s x (e.Set place members) at = untyped_Set place _ (map (leaf s) members) ∙ (ap (expr.Set place) (all_leaves s members) ∙ (sym (rolls-Set place members) ∙ at))
+leaves_keep s x y at = leaf_keeps s x y at
 
-leaves-keep : (x : Expr) → untyped (leaves x) ≡ x
-leaves-keep x = leaves_keep x (out-Expr x) (roll-out-Expr x)
+leaves-keep : (s : Declarations) (x : Expr) → untyped (leaves s x) ≡ x
+leaves-keep s x = leaves_keep s x (out-Expr x) (roll-out-Expr x)
 
 -- the right side of `in` is b
 abbrev KeepsRight : Expr → Result (Ty × TypedExpr) TypeFault → Type 0
 KeepsRight b o = IfOk o (λ (r : Ty × TypedExpr). untyped r.1 ≡ b)
 
 keeps_membership : (o : Option Bool) (s : Declarations) (b : Operand) → Kept b → (known : Capabilities) (x : TypedExpr) → KeepsRight b.expr (membership_by o s b known x)
-keeps_membership (Some p) s b h known x = leaves-keep b.expr
+keeps_membership (Some p) s b h known x = leaves-keep s b.expr
 keeps_membership None s b h known x = kept b.expr (b.typed known) _ _ (h known) λ y q. after (within s x y.expr) _ _ λ type. q
 
 keeps_contained : (s : Declarations) (place : Place) (a b : Operand) → Kept a → Kept b → (known : Capabilities) → Keeps (expr.Binary place binary.In a.expr b.expr) (contained s place a b known)
@@ -301,7 +301,7 @@ module _ (s : Declarations) (env : Env) where
       by_construct (expr.Unary place operator a.0) _ (applied place operator (part s env a.0)) (sym (rolls-Unary place operator a.0)) (construct.typing_Unary s env place operator a.0) (keeps_applied place operator (part s env a.0) a.1)
   inner (e.Access place a name) =
       by_construct (expr.Access place a.0 name) _ (accessed s place name (part s env a.0)) (sym (rolls-Access place a.0 name)) (construct.typing_Access s env place a.0 name) (keeps_accessed s place name (part s env a.0) a.1)
-  inner (e.Literal place l) = by_construct (expr.Literal place l) _ (λ known. outcome.gives (literal_typed place l) []) (sym (rolls-Literal place l)) (construct.typing_Literal s env place l) (λ known. untyped_Literal place _ l)
+  inner (e.Literal place l) = by_construct (expr.Literal place l) _ (λ known. outcome.gives (literal_typed s place l) []) (sym (rolls-Literal place l)) (construct.typing_Literal s env place l) (λ known. untyped_Literal place _ l)
   inner (e.Variable place x) =
       by_construct (expr.Variable place x) _ (λ known. outcome.gives (typed.Variable place (variable_type s env x) x) []) (sym (rolls-Variable place x)) (construct.typing_Variable s env place x) (λ known. untyped_Variable place _ x)
   inner (e.Set place ks) = by_construct (expr.Set place (exprs ks)) _ (set_literal place (operands ks)) (sym (rolls-Set place (exprs ks))) (construct.typing_Set s env place (exprs ks)) (keeps_set place ks)

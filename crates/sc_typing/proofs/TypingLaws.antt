@@ -114,7 +114,7 @@ module _ (s : Declarations) (env : Env) where
   pub typing_Access : (place : Place) (a : Expr) (name : List ℕ) (known : Capabilities) → typing s env (expr.Access place a name) known ≡ accessed s place name (part s env a) known
   typing_Access place a name known = rolls (expr.Access place a name) (e.Access place a name) (rolls-Access place a name) known ∙ λ i. accessed s place name (operand_is a i) known
 
-  pub typing_Literal : (place : Place) (l : Literal) (known : Capabilities) → typing s env (expr.Literal place l) known ≡ gives (literal_typed place l) []
+  pub typing_Literal : (place : Place) (l : Literal) (known : Capabilities) → typing s env (expr.Literal place l) known ≡ gives (literal_typed s place l) []
   typing_Literal place l known = rolls (expr.Literal place l) (e.Literal place l) (rolls-Literal place l) known
 
   pub typing_Variable : (place : Place) (x : Variable) (known : Capabilities) → typing s env (expr.Variable place x) known ≡ gives (typed.Variable place (variable_type s env x) x) []

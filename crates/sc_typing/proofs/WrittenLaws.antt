@@ -23,7 +23,7 @@ use Rattle.sc_schema.specs.Declarations.{Declarations}
 use Rattle.sc_typing.specs.declared.name_fault.NameFault.{NameFault}
 use Rattle.sc_typing.specs.declared.name_fault.NameKind.{NameKind}
 use Rattle.sc_typing.specs.Names.{Undeclared, first_of, first_in, literal_fault, expr_fault_step, expr_fault, entity_fault, type_fault, constraint_fault, action_fault, clauses_fault, policy_fault, fault_in, fault_from, name_fault}
-use Rattle.sc_typing.specs.Written.{Written, of_type, of_entity, place_of, declares, kind_of, literal_names, names_step, expr_names, constraint_names, action_names, names_of, AllDeclared, AreDeclared, IsFirst, IsToldFirst}
+use Rattle.sc_typing.specs.Written.{Written, of_type, of_entity, place_of, declares, stands_for, literal_names, names_step, expr_names, constraint_names, action_names, names_of, AllDeclared, AreDeclared, IsFirst, IsToldFirst}
 
 module _ (s : Declarations) where
   -- what is found is the first undeclared name of some names; where nothing is found all are declared
@@ -94,7 +94,7 @@ module _ (s : Declarations) where
 
   -- ---- one name
 
-  named_by : (w : Written) (b : Bool) → declares s w ≡ b → Finds (if b then None else Some (kind_of w, place_of w)) (w ∷ [])
+  named_by : (w : Written) (b : Bool) → declares s w ≡ b → Finds (if b then None else Some (stands_for s w, place_of w)) (w ∷ [])
   named_by w true h = (h, tt)
   named_by w false h = record {
     name = w;

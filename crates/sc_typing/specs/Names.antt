@@ -1,6 +1,6 @@
 -- Names that a schema declares, and the first one in policies that it doesn't.
-use Rattle.std.specs.Prelude.{ℕ, ◌+◌, List, [], ◌∷◌, Bool, ◌||◌, nat_eq, nat_le, fold, map, if◌then◌else◌, Option, Some, None, option_map, is_some, codes}
-use Rattle.std.specs.List.{ends_with}
+use Rattle.std.specs.Prelude.{ℕ, ◌+◌, List, [], ◌∷◌, Bool, true, ◌&&◌, ◌||◌, nat_eq, nat_le, fold, map, if◌then◌else◌, Option, Some, None, option_map, is_some, codes}
+use Rattle.std.specs.List.{ends_with, list_any}
 use Rattle.std.specs.Option.{option_or}
 use Rattle.std.specs.Str.{bytes_eq}
 use Rattle.sc_ast.specs.declared.place.Place.{Place}
@@ -17,10 +17,10 @@ use Rattle.sc_ast.specs.declared.scope.Constraint.TheVariants as constraint
 use Rattle.sc_ast.specs.declared.scope.ActionConstraint.{ActionConstraint}
 use Rattle.sc_ast.specs.declared.scope.ActionConstraint.TheVariants as action_constraint
 use Rattle.sc_names.specs.declared.uid.Uid.{Uid}
-use Rattle.sc_schema.specs.Declarations.{Declarations, entity_type, action, is_action_type}
+use Rattle.sc_schema.specs.Declarations.{Declarations, entity_type, action, is_action_type, declared_choices}
 use Rattle.sc_typing.specs.declared.name_fault.NameFault.{NameFault}
 use Rattle.sc_typing.specs.declared.name_fault.NameKind.{NameKind}
-use Rattle.sc_typing.specs.declared.name_fault.NameKind.TheVariants.{UnknownEntityType, UnknownAction}
+use Rattle.sc_typing.specs.declared.name_fault.NameKind.TheVariants.{UnknownEntityType, UnknownAction, UnknownChoice}
 
 -- ---- what is declared
 
@@ -28,13 +28,27 @@ use Rattle.sc_typing.specs.declared.name_fault.NameKind.TheVariants.{UnknownEnti
 abbrev pub is_type : Declarations → List ℕ → Bool
 is_type s name = is_action_type s name || is_some (entity_type s name)
 
--- a declared action, or an entity of another declared type
+-- a declared action, or an entity of another declared type, whatever its id
+abbrev pub is_known : Declarations → Uid → Bool
+is_known s u = if is_action_type s u.type_name then is_some (action s u) else is_some (entity_type s u.type_name)
+
+-- an id is one of the choices, where there are some
+abbrev pub has_choice : Option (List (List ℕ)) → List ℕ → Bool
+has_choice None id = true
+has_choice (Some ids) id = list_any (bytes_eq id) ids
+
+-- a declared action, or an entity of another declared type, with a choice as its id where the type is enumerated
 abbrev pub is_declared : Declarations → Uid → Bool
-is_declared s u = if is_action_type s u.type_name then is_some (action s u) else is_some (entity_type s u.type_name)
+is_declared s u = is_known s u && has_choice (declared_choices s u.type_name) u.id
 
 -- a path whose last part is `Action`
 abbrev pub is_action_name : List ℕ → Bool
 is_action_name name = bytes_eq name (codes "Action") || ends_with nat_eq name (codes "::Action")
+
+-- what a uid that isn't declared stands for
+abbrev pub undeclared_kind : Declarations → Uid → NameKind
+undeclared_kind s u = if is_known s u then UnknownChoice
+    else (if is_action_name u.type_name then UnknownAction else UnknownEntityType)
 
 -- ---- the name at the least place that isn't declared
 
@@ -55,8 +69,7 @@ abbrev pub first_in : List Undeclared → Undeclared
 first_in xs = fold first_of None xs
 
 abbrev pub uid_fault : Declarations → Place → Uid → Undeclared
-uid_fault s place u = if is_declared s u then None
-    else Some (if is_action_name u.type_name then UnknownAction else UnknownEntityType, place)
+uid_fault s place u = if is_declared s u then None else Some (undeclared_kind s u, place)
 
 abbrev pub type_fault : Declarations → TypeName → Undeclared
 type_fault s t = if is_type s t.name then None else Some (UnknownEntityType, t.place)

@@ -1,5 +1,5 @@
 -- The names that policies write, of types of entities and of entities, and which of them a schema declares.
-use Rattle.std.specs.Prelude.{◌≡◌, ◌≤◌, ℕ, List, [], ◌∷◌, ◌++◌, map, take, Bool, false, if◌then◌else◌, IsTrue, Some, Contains}
+use Rattle.std.specs.Prelude.{◌≡◌, ◌≤◌, ℕ, List, [], ◌∷◌, ◌++◌, map, take, Bool, false, IsTrue, Some, Contains}
 use Rattle.std.specs.List.{AllByRecursion, flat_map, slice_get}
 use Rattle.sc_ast.specs.declared.place.Place.{Place}
 use Rattle.sc_ast.specs.declared.expr.Expr.{Expr, Expr-F, fold-Expr}
@@ -17,8 +17,8 @@ use Rattle.sc_ast.specs.declared.scope.ActionConstraint.TheVariants as action_co
 use Rattle.sc_schema.specs.Declarations.{Declarations}
 use Rattle.sc_typing.specs.declared.name_fault.NameFault.{NameFault}
 use Rattle.sc_typing.specs.declared.name_fault.NameKind.{NameKind}
-use Rattle.sc_typing.specs.declared.name_fault.NameKind.TheVariants.{UnknownEntityType, UnknownAction}
-use Rattle.sc_typing.specs.Names.{is_type, is_declared, is_action_name}
+use Rattle.sc_typing.specs.declared.name_fault.NameKind.TheVariants.{UnknownEntityType}
+use Rattle.sc_typing.specs.Names.{is_type, is_declared, undeclared_kind}
 
 -- a name that a policy writes: that of a type, or a uid
 pub data Written : Type 0 where
@@ -34,9 +34,9 @@ declares s (of_type t) = is_type s t.name
 declares s (of_entity l) = is_declared s l.uid
 
 -- what it stands for, where it isn't declared
-abbrev pub kind_of : Written → NameKind
-kind_of (of_type t) = UnknownEntityType
-kind_of (of_entity l) = if is_action_name l.uid.type_name then UnknownAction else UnknownEntityType
+abbrev pub stands_for : Declarations → Written → NameKind
+stands_for s (of_type t) = UnknownEntityType
+stands_for s (of_entity l) = undeclared_kind s l.uid
 
 -- ---- the names that are written, also in what is never evaluated
 
@@ -101,7 +101,7 @@ pub record IsFirst (s : Declarations) (names : List Written) (kind : NameKind) (
   pub name : Written
   pub among : Contains names name
   pub undeclared : declares s name ≡ false
-  pub of_kind : kind ≡ kind_of name
+  pub of_kind : kind ≡ stands_for s name
   pub at_place : place ≡ place_of name
   pub least : AllByRecursion (λ w. declares s w ≡ false → place.offset ≤ (place_of w).offset) names
 

@@ -9,6 +9,8 @@ pub enum NameKind {
     UnknownEntityType,
     /// An action.
     UnknownAction,
+    /// A choice of a declared type that is enumerated.
+    UnknownChoice,
 }
 
 /// A name that isn't declared.

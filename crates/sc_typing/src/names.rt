@@ -1,7 +1,10 @@
 //! Whether the names that policies write are declared.
 ghost use Rattle.std.specs.Prelude.{◌≡◌, ℕ, List, map, fold, Some, None, OnOk, IfErr};
+ghost use Rattle.std.specs.List.{list_any};
+ghost use Rattle.std.specs.Str.{bytes_eq};
 ghost use Rattle.sc_ast.specs.declared.expr.Expr.{Expr as AnyExpr};
-ghost use Rattle.sc_typing.specs.Names.{is_type, is_declared, is_action_name, first_of, first_in, uid_fault, type_fault, literal_fault, expr_fault, entity_fault, constraint_fault, action_fault, clauses_fault, policy_fault, name_fault};
+ghost use Rattle.sc_schema.specs.Declarations.{declared_choices};
+ghost use Rattle.sc_typing.specs.Names.{is_type, is_known, has_choice, is_declared, undeclared_kind, is_action_name, first_of, first_in, uid_fault, type_fault, literal_fault, expr_fault, entity_fault, constraint_fault, action_fault, clauses_fault, policy_fault, name_fault};
 
 use crate::name_fault::{NameFault, NameKind};
 use sc_ast::{
@@ -10,15 +13,15 @@ use sc_ast::{
 };
 use sc_lists::Text;
 use sc_names::{Name, Uid};
-use sc_schema::{Schema, action_ancestors, attrs_of, is_action_type};
+use sc_schema::{Schema, action_ancestors, attrs_of, choices_of, is_action_type};
 
 /// A name that isn't declared: what it stands for, and its place.
 type Undeclared = Option<(NameKind, Place)>;
 
 /// Checks that the entity types and the actions that policies write are declared, in scopes, in
 /// clauses, and in parts of these that are never evaluated. The fault is the one of the first policy
-/// that has one, at the least place in it. An undeclared uid is that of an action where the last part
-/// of its type's name is `Action`.
+/// that has one, at the least place in it. An undeclared uid is a choice where its type is declared; else
+/// it is that of an action where the last part of its type's name is `Action`.
 pub fn check_names(schema: &Schema, policies: &PolicySet) -> Result<(), NameFault>
     ensures ok { OnOk result (name_fault schema.now policies.now ≡ None) }
     ensures err { IfErr result (λ fault. name_fault schema.now policies.now ≡ Some fault) }
@@ -59,9 +62,35 @@ fn is_type(schema: &Schema, name: &Name) -> bool
     attrs_of(schema, name).is_some()
 }
 
-/// Whether a uid is that of a declared action, or of an entity of another declared type.
+/// Whether a uid is that of a declared action, or of an entity of another declared type, and its id a
+/// choice, where the type is enumerated.
 fn is_declared(schema: &Schema, uid: &Uid) -> bool
     ensures { result ≡ is_declared schema.now uid.now }
+{
+    let known = is_known(schema, uid);
+    let chosen = has_choice(schema, uid);
+    known && chosen
+}
+
+/// Whether an id is a choice of its type, where the type is enumerated.
+fn has_choice(schema: &Schema, uid: &Uid) -> bool
+    ensures { result ≡ has_choice (declared_choices schema.now uid.now.type_name) uid.now.id }
+{
+    match choices_of(schema, &uid.type_name) {
+        Some(ids) => is_among(ids, &uid.id),
+        None => true,
+    }
+}
+
+fn is_among(ids: &[Text], id: &Text) -> bool
+    ensures { result ≡ list_any (bytes_eq id.now) ids.now }
+{
+    ids.iter().any(|choice| id.as_str() == choice.as_str())
+}
+
+/// Whether a uid is that of a declared action, or of an entity of another declared type, whatever its id.
+fn is_known(schema: &Schema, uid: &Uid) -> bool
+    ensures { result ≡ is_known schema.now uid.now }
 {
     if is_action_type(schema, &uid.type_name) {
         return action_ancestors(schema, uid).is_some();
@@ -82,10 +111,20 @@ fn uid_fault(schema: &Schema, place: Place, uid: &Uid) -> Undeclared
     if is_declared(schema, uid) {
         return None;
     }
-    if is_action_name(&uid.type_name) {
-        return Some((NameKind::UnknownAction, place));
+    Some((undeclared_kind(schema, uid), place))
+}
+
+/// What a uid that isn't declared stands for.
+fn undeclared_kind(schema: &Schema, uid: &Uid) -> NameKind
+    ensures { result ≡ undeclared_kind schema.now uid.now }
+{
+    if is_known(schema, uid) {
+        return NameKind::UnknownChoice;
     }
-    Some((NameKind::UnknownEntityType, place))
+    if is_action_name(&uid.type_name) {
+        return NameKind::UnknownAction;
+    }
+    NameKind::UnknownEntityType
 }
 
 fn type_fault(schema: &Schema, type_name: &TypeName) -> Undeclared

@@ -256,7 +256,7 @@ fn type_right(
         setting.now.known.now x.now) }
 {
     if let Some(is_in) = decided(setting.schema, a, b) {
-        let right = leaves(setting.alloc, b)?;
+        let right = leaves(setting.alloc, setting.schema, b)?;
         return Ok((truth(is_in), right));
     }
     let y = type_expr(setting, b)?;
@@ -390,9 +390,9 @@ fn type_literal(
     place: Place,
     value: &Literal,
 ) -> Result<Typed, Fault<TypeFault>>
-    ensures { Gives result (gives (literal_typed place value.now) []) }
+    ensures { Gives result (gives (literal_typed setting.now.schema.now place value.now) []) }
 {
-    Ok(literal(setting.alloc, place, value)?)
+    Ok(literal(setting.alloc, setting.schema, place, value)?)
 }
 
 /// A variable with its type.

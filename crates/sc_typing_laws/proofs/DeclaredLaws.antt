@@ -2,6 +2,7 @@
 use Rattle.std.proofs.Common.{◌≡◌, ◌+◌, ℕ, zero, suc, List, [], ◌∷◌, ◌++◌, map, flat_map, fold, Bool, true, false, if◌then◌else◌, Option, Some, None, option_map, is_some, Contains, refl, sym, subst, ◌∙◌, arith}
 use Rattle.std.specs.List.{AllByRecursion}
 use Rattle.std.specs.Option.{option_or}
+use Rattle.std.proofs.lemmas.Bool.{and_parts}
 use Rattle.sc_ast.specs.declared.place.Place.{Place}
 use Rattle.sc_ast.specs.declared.expr.Expr.{Expr, Expr-F, roll-Expr, map-Expr, ind-Expr, fold-roll-Expr}
 use Rattle.sc_ast.specs.declared.expr.Expr.TheOpen as e
@@ -17,9 +18,10 @@ use Rattle.sc_ast.specs.declared.scope.ActionConstraint.TheVariants as action_co
 use Rattle.sc_ast.specs.Literals.{uids_step, expr_uids, literal_uids, constraint_uids, action_uids, policy_uids, literals}
 use Rattle.sc_names.specs.declared.uid.Uid.{Uid}
 use Rattle.sc_schema.specs.declared.declarations.EntityType.{EntityType}
-use Rattle.sc_schema.specs.Declarations.{Declarations, entity_type, action, is_action_type}
-use Rattle.sc_typing.specs.Names.{Undeclared, is_declared, first_of, first_in, uid_fault, type_fault, literal_fault, expr_fault_step, expr_fault, entity_fault, constraint_fault, action_fault, clauses_fault, policy_fault, fault_in, fault_from, name_fault}
+use Rattle.sc_schema.specs.Declarations.{Declarations, entity_type, action, is_action_type, choices_of, declared_choices, some_of}
+use Rattle.sc_typing.specs.Names.{Undeclared, is_known, has_choice, is_declared, first_of, first_in, uid_fault, type_fault, literal_fault, expr_fault_step, expr_fault, entity_fault, constraint_fault, action_fault, clauses_fault, policy_fault, fault_in, fault_from, name_fault}
 use Rattle.sc_typing.specs.declared.name_fault.NameKind.{NameKind}
+use Rattle.sc_world.specs.Choices.{is_choice, IsChoice}
 use Rattle.sc_world.specs.Named.{IsDeclared}
 
 -- ---- the first of some
@@ -220,16 +222,27 @@ module _ (s : Declarations) where
 
   -- ---- what is declared
 
+  one_of_choices : (cs : List (List ℕ)) (id : List ℕ) → has_choice (some_of cs) id ≡ true → is_choice cs id ≡ true
+  one_of_choices [] id h = refl
+  one_of_choices (c ∷ cs) id h = h
+
   shape_some : (o : Option EntityType) → is_some o ≡ true → is_some (option_map (λ (t : EntityType). t.shape) o) ≡ true
   shape_some None h = absurd cc
   shape_some (Some t) h = refl
 
-  declared_by : (u : Uid) (b : Bool) → is_action_type s u.type_name ≡ b → (if b then is_some (action s u) else is_some (entity_type s u.type_name)) ≡ true → IsDeclared s u
-  declared_by u true at h = record { of_type = rw at refl; as_action = λ t. h }
-  declared_by u false at h = record { of_type = rw at (shape_some (entity_type s u.type_name) h); as_action = λ t. absurd (let f : false ≡ true = sym at ∙ t in cc) }
+  declared_by : (u : Uid) (b : Bool) → is_action_type s u.type_name ≡ b → (if b then is_some (action s u) else is_some (entity_type s u.type_name)) ≡ true → IsChoice s u → IsDeclared s u
+  declared_by u true at h chosen = record { of_type = rw at refl; as_action = λ t. h; as_choice = chosen }
+  declared_by u false at h chosen =
+      record {
+        of_type = rw at (shape_some (entity_type s u.type_name) h);
+        as_action = λ t. absurd (let f : false ≡ true = sym at ∙ t in cc);
+        as_choice = chosen;
+      }
 
   pub declared_of : (u : Uid) → Is u → IsDeclared s u
-  declared_of u h = declared_by u (is_action_type s u.type_name) refl h
+  declared_of u h =
+      let parts = and_parts (is_known s u) (has_choice (declared_choices s u.type_name) u.id) h in
+      declared_by u (is_action_type s u.type_name) refl parts.0 (one_of_choices (choices_of s u.type_name) u.id parts.1)
 
 pub all_declared : (s : Declarations) (ps : List Policy) (u : Uid) → name_fault s ps ≡ None → Contains (literals ps) u → IsDeclared s u
 all_declared s ps u none among = declared_of s u (one_of s (literals ps) u (policies_all s 0 ps none) among)

@@ -27,6 +27,7 @@ for_others s env us vs w among h = record {
   transitive = h.transitive;
   acyclic = h.acyclic;
   actions = h.actions;
+  choices = h.choices;
   declared_actions = h.declared_actions;
   closed = record {
     principal = h.closed.principal;

@@ -96,7 +96,7 @@ module _ (s : Declarations) (env : Env) where
 
   -- the type and the right side of `a in b`
   data IsRight (a b : Expr) (known : Capabilities) (x : TypedExpr) (y : Ty × TypedExpr) : Type 0 where
-    right_decided : (is_in : Bool) → decided s a b ≡ Some is_in → y ≡ (truth is_in, leaves b) → IsRight a b known x y
+    right_decided : (is_in : Bool) → decided s a b ≡ Some is_in → y ≡ (truth is_in, leaves s b) → IsRight a b known x y
     right_typed : (v : Typed) (n m : List ℕ) → decided s a b ≡ None → Derives s env b known v → entity_name (ty x) ≡ Some n → group (ty v.expr) ≡ Some m
         → y ≡ (in_type s n m, v.expr) → IsRight a b known x y
 

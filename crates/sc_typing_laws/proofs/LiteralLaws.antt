@@ -35,6 +35,6 @@ one_outcome t u h = ap (λ (o : Outcome). given_or t o) h
     given_or t (Err fault) = t
 
 pub literal_derived : (s : Declarations) (env : Env) (a : Expr) (known : Capabilities) (t : Typed) (l : Literal) → literal_of a ≡ Some l → Derives s env a known t
-    → t ≡ made (literal_typed (expr_place a) l) []
+    → t ≡ made (literal_typed s (expr_place a) l) []
 literal_derived s env a known t l h d =
     one_outcome t _ (sym (given s env a known t d) ∙ ap (λ x. typing s env x known) (literal_written a l h) ∙ typing_Literal s env (expr_place a) l known)

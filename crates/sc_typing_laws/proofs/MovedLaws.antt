@@ -162,7 +162,7 @@ module _ (s : Declarations) (env : Env) (move : Place → Place) where
     right_moved r = (r.0, mt r.1)
 
     right_at : (o : Option Bool) (known : Capabilities) (x : TypedExpr) → Moves right_moved (membership_by o s (part s env b) known x) (membership_by o s (part s env (me b)) known (mt x))
-    right_at (Some is_in) known x = ap (λ (y : TypedExpr). Ok (truth is_in, y)) (rule.leaves_moved move b)
+    right_at (Some is_in) known x = ap (λ (y : TypedExpr). Ok (truth is_in, y)) (rule.leaves_moved move s b)
     right_at None known x =
         rule.follows move (typing s env b known) _ gm _ _ right_moved (k known) λ y.
         rule.follows move (within s x y.expr) _ (λ u. u) _ _ right_moved (rule.within_at move s known p a b x y.expr) λ type. refl
@@ -319,7 +319,7 @@ module _ (s : Declarations) (env : Env) (move : Place → Place) where
   inner (e.Unary p o a) = from _ _ (rolls-Unary p o a.0) (moved_unary p a.0 a.1 o)
   inner (e.Access p a name) = from _ _ (rolls-Access p a.0 name) (moved_access p a.0 a.1 name)
   inner (e.Literal p l) = from _ _ (rolls-Literal p l)
-      (λ known. by_rule (expr.Literal p l) _ known _ _ (shape.moved_Literal move p l) (construct.typing_Literal s env p l known) (construct.typing_Literal s env (move p) l known) (made_at (literal_typed p l) _ [] (shape.typed_Literal move p (literal_type l) l)))
+      (λ known. by_rule (expr.Literal p l) _ known _ _ (shape.moved_Literal move p l) (construct.typing_Literal s env p l known) (construct.typing_Literal s env (move p) l known) (made_at (literal_typed s p l) _ [] (shape.typed_Literal move p (literal_type s l) l)))
   inner (e.Variable p v) = from _ _ (rolls-Variable p v)
       (λ known. by_rule (expr.Variable p v) _ known _ _ (shape.moved_Variable move p v) (construct.typing_Variable s env p v known) (construct.typing_Variable s env (move p) v known)
       (made_at (typed.Variable p (variable_type s env v) v) _ [] (shape.typed_Variable move p (variable_type s env v) v)))

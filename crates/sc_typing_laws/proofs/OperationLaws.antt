@@ -1,6 +1,8 @@
 -- The types that operators are given are those of their rows.
 use Rattle.std.proofs.Common.{◌≡◌, ℕ, List, Bool, true, false, ◌&&◌, Option, Some, None, IfOk, is_some, refl, subst}
 use Rattle.std.specs.Option.{option_and_then}
+use Rattle.std.specs.Str.{bytes_eq}
+use Rattle.sc_laws.proofs.BoolLaws.{not_is_true}
 use Rattle.sc_laws.proofs.OptionLaws.{some_is}
 use Rattle.sc_ast.specs.declared.expr.Expr.{Expr}
 use Rattle.sc_ast.specs.declared.literal.Literal.{Literal}
@@ -20,7 +22,7 @@ use Rattle.sc_typed.specs.Capabilities.{Capabilities, tag_of, is_known}
 use Rattle.sc_typed.specs.Literals.{literal_of, text_of}
 use Rattle.sc_typed.specs.Outcomes.{ty}
 use Rattle.sc_typed.proofs.OutcomeLaws.{through, in_either, checked, found}
-use Rattle.sc_typing_rules.specs.Operators.{longs, decimals, addresses, contained, sets, are_entities, compared, equal_by, tags, has_tag, get_tag, binary, address, read_as, reads, unary}
+use Rattle.sc_typing_rules.specs.Operators.{longs, decimals, addresses, contained, sets, are_apart, compared, equal_by, tags, has_tag, get_tag, binary, address, read_as, reads, unary}
 use Rattle.sc_typing_laws.specs.Operations.{are_literals, less, less_or_equal, greater, greater_or_equal, addition, subtraction, multiplication, IsSetTest, all, any, IsDecimalComparison, decimal_less, decimal_less_or_equal, decimal_greater, decimal_greater_or_equal, IsOperation, of_comparison, of_arithmetic, of_literals, of_equal, of_apart, of_contains, of_sets, of_has_tag, of_get_tag, of_decimals, of_ranges, IsAddressTest, version_4, version_6, loopback, multicast, IsApplication, of_not, of_negate, of_is_empty, of_address_test, of_decimal, of_ip}
 
 not_some : {A : Type 0} (o : Option A) → is_some o ≡ false → o ≡ None
@@ -58,15 +60,15 @@ module _ (s : Declarations) (known : Capabilities) (a b : Expr) (x y : TypedExpr
   joined_is (Some both) l j h = of_equal both l j
   joined_is None l j h = absurd cc
 
-  apart_is : (n m : Option (List ℕ)) → are_literals a b ≡ false → entity_name (ty x) ≡ n → entity_name (ty y) ≡ m → (is_some n && is_some m) ≡ true → join (ty x) (ty y) ≡ None → Is Equal types.False
-  apart_is (Some n) (Some m) l e f h j = of_apart n m l e f j
+  apart_is : (n m : Option (List ℕ)) → are_literals a b ≡ false → entity_name (ty x) ≡ n → entity_name (ty y) ≡ m → are_apart n m ≡ true → join (ty x) (ty y) ≡ None → Is Equal types.False
+  apart_is (Some n) (Some m) l e f h j = of_apart n m l e f (not_is_true (bytes_eq n m) h) j
   apart_is (Some n) None l e f h j = absurd cc
   apart_is None m l e f h j = absurd cc
 
   compared_is : (place : Place) → are_literals a b ≡ false → IfOk (compared place (ty x) (ty y)) (Is Equal)
   compared_is place l =
       in_either (is_some (join (ty x) (ty y))) _ _ (Is Equal) (λ h. joined_is (join (ty x) (ty y)) l refl h) λ h.
-      in_either (are_entities (ty x) (ty y)) _ _ (Is Equal) (λ g. apart_is (entity_name (ty x)) (entity_name (ty y)) l refl refl g (not_some (join (ty x) (ty y)) h)) λ g. tt
+      in_either (are_apart (entity_name (ty x)) (entity_name (ty y))) _ _ (Is Equal) (λ g. apart_is (entity_name (ty x)) (entity_name (ty y)) l refl refl g (not_some (join (ty x) (ty y)) h)) λ g. tt
 
   equal_is : (place : Place) (l m : Option Literal) → literal_of a ≡ l → literal_of b ≡ m → IfOk (equal_by place l m (ty x) (ty y)) (Is Equal)
   equal_is place (Some l) (Some m) p q = of_literals l m p q

@@ -31,7 +31,7 @@ use Rattle.sc_typed.specs.Outcomes.{◌>>=◌, check, or_fails, fails, ty, joine
 use Rattle.sc_typed.specs.TypedExprs.{place_of}
 use Rattle.sc_typed.specs.Types.{Field, is_boolean, is_long, is_string, is_decimal, is_ip, is_either, entity_name, group, member, join, attributes, attribute, is_required}
 use Rattle.sc_typing_rules.specs.declared.path.Path.{Path}
-use Rattle.sc_typing_rules.specs.Operators.{longs, decimals, addresses, contained, sets, are_entities, compared, equal_by, within, uids_of, some_uids_of, group_in, group_of, action_of, decided_by, decided, tags, has_tag, get_tag, tag_test, tag_read, binary, given_by, negated, address, reads, read_as, unary}
+use Rattle.sc_typing_rules.specs.Operators.{longs, decimals, addresses, contained, sets, are_apart, compared, equal_by, within, uids_of, some_uids_of, group_in, group_of, action_of, decided_by, decided, tags, has_tag, get_tag, tag_test, tag_read, binary, given_by, negated, address, reads, read_as, unary}
 use Rattle.sc_typing_rules.specs.Paths.{Subject, attribute_in, ended, longer, along}
 use Rattle.sc_typing_rules.specs.Rules.{literal_type, leaf_in, leaf, first_type, leaves_in, leaves, read, read_type, all_joined, member_type, with_field, record_type}
 use Rattle.sc_typing_laws.specs.Moved.{layer_moved, moved, typed_moved, result_moved}
@@ -113,7 +113,7 @@ module _ (move : Place → Place) where
     compared_at : (t u : Ty) → Stays (compared p t u) (compared (move p) t u)
     compared_at t u =
         either_way (is_some (join t u)) (λ v. v) (Ok types.Bool) _ (Ok types.Bool) _ refl
-        (either_way (are_entities t u) (λ v. v) (Ok types.False) (fails NoJoin p) (Ok types.False) (fails NoJoin (move p)) refl refl)
+        (either_way (are_apart (entity_name t) (entity_name u)) (λ v. v) (Ok types.False) (fails NoJoin p) (Ok types.False) (fails NoJoin (move p)) refl refl)
 
     equal_at : (l m : Option Literal) (t u : Ty) → Stays (equal_by p l m t u) (equal_by (move p) l m t u)
     equal_at (Some l) (Some m) t u = refl
@@ -229,31 +229,31 @@ module _ (move : Place → Place) where
       let second : group_of (me b) ≡ group_of b = ap group_in (out_moved move b) ∙ group_at (out-Expr b) in
       λ i. decided_by (action_of s (first i)) (second i)
 
-  leaf_at : (x : Expr) (y : Expr-F Expr) → leaf_in (me x) (layers y) ≡ mt (leaf_in x y)
-  leaf_at x (e.Literal p l) = sym (typed_Literal move p (literal_type l) l)
-  leaf_at x _ = sym (typed_Skipped move x)
+  leaf_at : (s : Declarations) (x : Expr) (y : Expr-F Expr) → leaf_in s (me x) (layers y) ≡ mt (leaf_in s x y)
+  leaf_at s x (e.Literal p l) = sym (typed_Literal move p (literal_type s l) l)
+  leaf_at s x _ = sym (typed_Skipped move x)
 
-  leaf_moved : (x : Expr) → leaf (me x) ≡ mt (leaf x)
-  leaf_moved x = ap (leaf_in (me x)) (out_moved move x) ∙ leaf_at x (out-Expr x)
+  leaf_moved : (s : Declarations) (x : Expr) → leaf s (me x) ≡ mt (leaf s x)
+  leaf_moved s x = ap (leaf_in s (me x)) (out_moved move x) ∙ leaf_at s x (out-Expr x)
 
-  all_leaves : (xs : List Expr) → map leaf (map me xs) ≡ map mt (map leaf xs)
-  all_leaves [] = refl
-  all_leaves (x ∷ xs) = let first = leaf_moved x in let rest = all_leaves xs in λ i. first i ∷ rest i
+  all_leaves : (s : Declarations) (xs : List Expr) → map (leaf s) (map me xs) ≡ map mt (map (leaf s) xs)
+  all_leaves s [] = refl
+  all_leaves s (x ∷ xs) = let first = leaf_moved s x in let rest = all_leaves s xs in λ i. first i ∷ rest i
 
   first_moved : (xs : List TypedExpr) → first_type (map mt xs) ≡ first_type xs
   first_moved [] = refl
   first_moved (x ∷ xs) = ty_moved move x
 
-  leaves_at : (x : Expr) (y : Expr-F Expr) → leaves_in (me x) (layers y) ≡ mt (leaves_in x y)
-  leaves_at x (e.Set p members) =
-      let ls = all_leaves members in
-      let type : first_type (map leaf (map me members)) ≡ first_type (map leaf members) = ap first_type ls ∙ first_moved (map leaf members) in
-      (λ i. typed.Set (move p) (types.Set (type i)) (ls i)) ∙ sym (typed_Set move p (types.Set (first_type (map leaf members))) (map leaf members))
-  leaves_at x (e.Literal p l) = sym (typed_Literal move p (literal_type l) l)
-  leaves_at x _ = sym (typed_Skipped move x)
+  leaves_at : (s : Declarations) (x : Expr) (y : Expr-F Expr) → leaves_in s (me x) (layers y) ≡ mt (leaves_in s x y)
+  leaves_at s x (e.Set p members) =
+      let ls = all_leaves s members in
+      let type : first_type (map (leaf s) (map me members)) ≡ first_type (map (leaf s) members) = ap first_type ls ∙ first_moved (map (leaf s) members) in
+      (λ i. typed.Set (move p) (types.Set (type i)) (ls i)) ∙ sym (typed_Set move p (types.Set (first_type (map (leaf s) members))) (map (leaf s) members))
+  leaves_at s x (e.Literal p l) = sym (typed_Literal move p (literal_type s l) l)
+  leaves_at s x _ = sym (typed_Skipped move x)
 
-  pub leaves_moved : (x : Expr) → leaves (me x) ≡ mt (leaves x)
-  leaves_moved x = ap (leaves_in (me x)) (out_moved move x) ∙ leaves_at x (out-Expr x)
+  pub leaves_moved : (s : Declarations) (x : Expr) → leaves s (me x) ≡ mt (leaves s x)
+  leaves_moved s x = ap (leaves_in s (me x)) (out_moved move x) ∙ leaves_at s x (out-Expr x)
 
   -- ---- names
 

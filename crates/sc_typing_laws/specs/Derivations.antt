@@ -76,7 +76,7 @@ mutual
     -- `a in b` of a declared action and of entities that are written
     of_in_decided : (z : Expr) (known : Capabilities) (u : Typed) (p : Place) (a b : Expr) (x : Typed) (is_in : Bool)
         → z ≡ expr.Binary p In a b → Derives s env a known x → decided s a b ≡ Some is_in
-        → u ≡ made (typed.Binary p (truth is_in) In x.expr (leaves b)) [] → Derives s env z known u
+        → u ≡ made (typed.Binary p (truth is_in) In x.expr (leaves s b)) [] → Derives s env z known u
     of_in : (z : Expr) (known : Capabilities) (u : Typed) (p : Place) (a b : Expr) (x y : Typed) (n m : List ℕ)
         → z ≡ expr.Binary p In a b → Derives s env a known x → decided s a b ≡ None → Derives s env b known y
         → entity_name (ty x.expr) ≡ Some n → group (ty y.expr) ≡ Some m
@@ -101,7 +101,7 @@ mutual
         (x : Typed) (n : List ℕ)
         (is_in : Bool) → z ≡ expr.IsIn p a t q b → Derives s env a known x → entity_name (ty x.expr) ≡ Some n
         → bytes_eq n t.name ≡ true → decided s a b ≡ Some is_in
-        → u ≡ made (typed.IsIn p (truth is_in) x.expr t q (leaves b)) [] → Derives s env z known u
+        → u ≡ made (typed.IsIn p (truth is_in) x.expr t q (leaves s b)) [] → Derives s env z known u
     of_is_in : (z : Expr) (known : Capabilities) (u : Typed) (p q : Place) (a b : Expr) (t : TypeName) (x y : Typed)
         (n m : List ℕ)
         → z ≡ expr.IsIn p a t q b → Derives s env a known x → entity_name (ty x.expr) ≡ Some n
@@ -118,7 +118,7 @@ mutual
         → attribute name fields ≡ Some f → (is_required f || is_known known (attribute_of a name)) ≡ true
         → u ≡ made (typed.Access p f.2 x.expr name) [] → Derives s env z known u
     of_literal : (z : Expr) (known : Capabilities) (u : Typed) (p : Place) (l : Literal) → z ≡ expr.Literal p l
-        → u ≡ made (literal_typed p l) [] → Derives s env z known u
+        → u ≡ made (literal_typed s p l) [] → Derives s env z known u
     of_variable : (z : Expr) (known : Capabilities) (u : Typed) (p : Place) (v : Variable) → z ≡ expr.Variable p v
         → u ≡ made (typed.Variable p (variable_type s env v) v) [] → Derives s env z known u
     of_set : (z : Expr) (known : Capabilities) (u : Typed) (p : Place) (members : List Expr) (xs : List TypedExpr)

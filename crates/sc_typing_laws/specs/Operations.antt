@@ -1,6 +1,7 @@
 -- The types of operators, one row for each kind of operator: what typing asks of the operands, and the type of the
 -- result.
 use Rattle.std.specs.Prelude.{◌≡◌, ◌&&◌, ℕ, List, Bool, true, false, Some, None, is_some}
+use Rattle.std.specs.Str.{bytes_eq}
 use Rattle.sc_ast.specs.declared.expr.Expr.{Expr}
 use Rattle.sc_ast.specs.declared.literal.Literal.{Literal}
 use Rattle.sc_ast.specs.declared.operator.BinaryOperator.{BinaryOperator}
@@ -59,7 +60,7 @@ pub data IsOperation (s : Declarations) (known : Capabilities) (a b : Expr) (x y
       → IsOperation s known a b x y Equal types.Bool
   -- entities of two types are never equal
   of_apart : (n m : List ℕ) → are_literals a b ≡ false → entity_name (ty x) ≡ Some n → entity_name (ty y) ≡ Some m
-      → join (ty x) (ty y) ≡ None
+      → bytes_eq n m ≡ false → join (ty x) (ty y) ≡ None
       → IsOperation s known a b x y Equal types.False
   of_contains : (element both : Ty) → member (ty x) ≡ Some element → join element (ty y) ≡ Some both
       → IsOperation s known a b x y Contains types.Bool

@@ -25,7 +25,7 @@ pub fn derivation_laws()
         Derives s env x known t → typing s env x known ≡ Ok t }
     ensures literal { (s : Declarations) (env : AnyEnv) (x : AnyExpr) (known : Capabilities) (t : AnyTyped)
         (l : AnyLiteral) → literal_of x ≡ Some l → Derives s env x known t
-        → t ≡ made (literal_typed (expr_place x) l) [] }
+        → t ≡ made (literal_typed s (expr_place x) l) [] }
 {}
 
 /// `a has b.c.d` is typed as `a has b && a.b has c && a.b.c has d`, with `&&`, `has` and the accesses at

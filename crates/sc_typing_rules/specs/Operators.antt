@@ -1,5 +1,5 @@
 -- The types of operators, in the order of the grammar.
-use Rattle.std.specs.Prelude.{ℕ, List, [], ◌∷◌, Bool, ◌&&◌, ◌||◌, if◌then◌else◌, Option, Some, None, option_map, is_some, unwrap_or, Result, Ok}
+use Rattle.std.specs.Prelude.{ℕ, List, [], ◌∷◌, Bool, false, not, ◌||◌, if◌then◌else◌, Option, Some, None, option_map, is_some, unwrap_or, Result, Ok}
 use Rattle.std.specs.List.{list_any}
 use Rattle.std.specs.Option.{option_and_then}
 use Rattle.std.specs.Str.{bytes_eq}
@@ -47,13 +47,15 @@ sets place x y = as_set x >>= λ s. as_set y >>= λ t. joined place s t >>= λ b
 
 -- ---- `==`
 
--- entities of two types are never equal
-abbrev pub are_entities : Ty → Ty → Bool
-are_entities s t = is_some (entity_name s) && is_some (entity_name t)
+-- two types of entities have different names, so that their entities are never equal
+abbrev pub are_apart : Option (List ℕ) → Option (List ℕ) → Bool
+are_apart (Some n) (Some m) = not (bytes_eq n m)
+are_apart (Some n) None = false
+are_apart None m = false
 
 abbrev pub compared : Place → Ty → Ty → Result Ty TypeFault
 compared place s t = if is_some (join s t) then Ok ty.Bool
-    else (if are_entities s t then Ok ty.False else fails NoJoin place)
+    else (if are_apart (entity_name s) (entity_name t) then Ok ty.False else fails NoJoin place)
 
 -- two literals are compared by value
 abbrev pub equal_by : Place → Option Literal → Option Literal → Ty → Ty → Result Ty TypeFault

@@ -21,7 +21,7 @@ use Rattle.sc_schema.specs.declared.declarations.Env.{Env}
 use Rattle.sc_schema.specs.declared.ty.Presence.TheVariants.{Required}
 use Rattle.sc_schema.specs.declared.ty.Ty.{Ty}
 use Rattle.sc_schema.specs.declared.ty.Ty.TheVariants as ty
-use Rattle.sc_schema.specs.Declarations.{Declarations, context_of}
+use Rattle.sc_schema.specs.Declarations.{Declarations, context_of, kind_of}
 use Rattle.sc_typed.specs.declared.fault.TypeFault.{TypeFault}
 use Rattle.sc_typed.specs.declared.fault.TypeRule.TheVariants.{EmptySet, NoAttribute, MaybeAbsent}
 use Rattle.sc_typed.specs.declared.outcome.Typed.{Typed}
@@ -121,43 +121,44 @@ both place a b known =
 
 -- ---- literals and variables
 
-abbrev pub literal_type : Literal → Ty
-literal_type (literal.Bool b) = truth b
-literal_type (literal.Long n) = ty.Long
-literal_type (literal.String text) = ty.String
-literal_type (literal.Entity u) = ty.Entity u.type_name
+abbrev pub literal_type : Declarations → Literal → Ty
+literal_type s (literal.Bool b) = truth b
+literal_type s (literal.Long n) = ty.Long
+literal_type s (literal.String text) = ty.String
+literal_type s (literal.Entity u) = ty.Entity (kind_of s u.type_name)
 
-abbrev pub literal_typed : Place → Literal → TypedExpr
-literal_typed place l = typed.Literal place (literal_type l) l
+abbrev pub literal_typed : Declarations → Place → Literal → TypedExpr
+literal_typed s place l = typed.Literal place (literal_type s l) l
 
 -- the types of the environment
 abbrev pub variable_type : Declarations → Env → Variable → Ty
-variable_type s env Principal = ty.Entity env.principal
-variable_type s env Action = ty.Entity env.action.type_name
-variable_type s env Resource = ty.Entity env.resource
+variable_type s env Principal = ty.Entity (kind_of s env.principal)
+variable_type s env Action = ty.Entity (kind_of s env.action.type_name)
+variable_type s env Resource = ty.Entity (kind_of s env.resource)
 variable_type s env Context = unwrap_or (context_of s env.action) (ty.Record [])
 
 -- ---- an operator with two operands
 
 -- an expression that is a literal, with its type
-abbrev pub leaf_in : Expr → Expr-F Expr → TypedExpr
-leaf_in x (e.Literal place l) = literal_typed place l
-leaf_in x _ = typed.Skipped x
+abbrev pub leaf_in : Declarations → Expr → Expr-F Expr → TypedExpr
+leaf_in s x (e.Literal place l) = literal_typed s place l
+leaf_in s x _ = typed.Skipped x
 
-abbrev pub leaf : Expr → TypedExpr
-leaf x = leaf_in x (out-Expr x)
+abbrev pub leaf : Declarations → Expr → TypedExpr
+leaf s x = leaf_in s x (out-Expr x)
 
 abbrev pub first_type : List TypedExpr → Ty
 first_type [] = ty.False
 first_type (x ∷ xs) = outcome.ty x
 
 -- a literal or a set of literals with their types; those of the members don't join, the set has that of the first one
-abbrev pub leaves_in : Expr → Expr-F Expr → TypedExpr
-leaves_in x (e.Set place members) = typed.Set place (ty.Set (first_type (map leaf members))) (map leaf members)
-leaves_in x layer = leaf_in x layer
+abbrev pub leaves_in : Declarations → Expr → Expr-F Expr → TypedExpr
+leaves_in s x (e.Set place members) =
+    typed.Set place (ty.Set (first_type (map (leaf s) members))) (map (leaf s) members)
+leaves_in s x layer = leaf_in s x layer
 
-abbrev pub leaves : Expr → TypedExpr
-leaves x = leaves_in x (out-Expr x)
+abbrev pub leaves : Declarations → Expr → TypedExpr
+leaves s x = leaves_in s x (out-Expr x)
 
 -- the type of `in`, and its right side
 abbrev pub with_right : Declarations → TypedExpr → TypedExpr → Result (Ty × TypedExpr) TypeFault
@@ -168,7 +169,7 @@ right_side s b known x = b.typed known >>= λ y. with_right s x y.expr
 
 abbrev pub membership_by : Option Bool → Declarations → Operand → Capabilities → TypedExpr
     → Result (Ty × TypedExpr) TypeFault
-membership_by (Some is_in) s b known x = Ok (truth is_in, leaves b.expr)
+membership_by (Some is_in) s b known x = Ok (truth is_in, leaves s b.expr)
 membership_by None s b known x = right_side s b known x
 
 -- `a in b`, of a with its types

@@ -9,38 +9,48 @@ use crate::setting::Setting;
 use sc_ast::{Expr, Literal, Place, Variable, try_clone};
 use sc_lists::{Boxed, Seq, Shared};
 use sc_names::Uid;
-use sc_schema::{Schema, Ty, context_of, no_attributes};
+use sc_schema::{Schema, Ty, context_of, kind_of, no_attributes};
 use sc_typed::operands::copy_of_ty;
 use sc_typed::types::truth;
 use sc_typed::{Typed, TypedExpr};
 use std::alloc::{AllocError, Global};
 
 /// The type of a literal.
-fn literal_type(alloc: Global, literal: &Literal) -> Result<Ty, AllocError>
-    ensures { IfOk result (λ t. t ≡ literal_type literal.now) }
+fn literal_type(alloc: Global, schema: &Schema, literal: &Literal) -> Result<Ty, AllocError>
+    ensures { IfOk result (λ t. t ≡ literal_type schema.now literal.now) }
 {
     match literal {
         Literal::Bool(value) => Ok(truth(*value)),
         Literal::Long(_) => Ok(Ty::Long),
         Literal::String(_) => Ok(Ty::String),
-        Literal::Entity(uid) => Ok(Ty::Entity(uid.type_name.try_clone(alloc)?)),
+        Literal::Entity(uid) => Ok(Ty::Entity(kind_of(alloc, schema, &uid.type_name)?)),
     }
 }
 
 /// A literal with its type.
-fn literal_typed(alloc: Global, place: Place, literal: &Literal) -> Result<TypedExpr, AllocError>
-    ensures { IfOk result (λ x. x ≡ literal_typed place literal.now) }
+fn literal_typed(
+    alloc: Global,
+    schema: &Schema,
+    place: Place,
+    literal: &Literal,
+) -> Result<TypedExpr, AllocError>
+    ensures { IfOk result (λ x. x ≡ literal_typed schema.now place literal.now) }
 {
-    let ty = Boxed::new(alloc, literal_type(alloc, literal)?)?;
+    let ty = Boxed::new(alloc, literal_type(alloc, schema, literal)?)?;
     let literal = literal.try_clone(alloc)?;
     Ok(TypedExpr::Literal(place, ty.into_inner(), literal))
 }
 
 /// A literal, which gives nothing.
-pub fn literal(alloc: Global, place: Place, literal: &Literal) -> Result<Typed, AllocError>
-    ensures { IfOk result (λ x. x ≡ made (literal_typed place literal.now) []) }
+pub fn literal(
+    alloc: Global,
+    schema: &Schema,
+    place: Place,
+    literal: &Literal,
+) -> Result<Typed, AllocError>
+    ensures { IfOk result (λ x. x ≡ made (literal_typed schema.now place literal.now) []) }
 {
-    plain(alloc, literal_typed(alloc, place, literal)?)
+    plain(alloc, literal_typed(alloc, schema, place, literal)?)
 }
 
 /// The type of a variable in an environment.
@@ -48,12 +58,13 @@ fn variable_type(setting: &Setting<'_>, variable: Variable) -> Result<Ty, AllocE
     ensures { IfOk result (λ t. t ≡ variable_type setting.now.schema.now setting.now.env.now variable) }
 {
     let alloc = setting.alloc;
+    let schema = setting.schema;
     let env = setting.env;
     match variable {
-        Variable::Principal => Ok(Ty::Entity(env.principal.try_clone(alloc)?)),
-        Variable::Action => Ok(Ty::Entity(env.action.type_name.try_clone(alloc)?)),
-        Variable::Resource => Ok(Ty::Entity(env.resource.try_clone(alloc)?)),
-        Variable::Context => context_type(alloc, setting.schema, &env.action),
+        Variable::Principal => Ok(Ty::Entity(kind_of(alloc, schema, &env.principal)?)),
+        Variable::Action => Ok(Ty::Entity(kind_of(alloc, schema, &env.action.type_name)?)),
+        Variable::Resource => Ok(Ty::Entity(kind_of(alloc, schema, &env.resource)?)),
+        Variable::Context => context_type(alloc, schema, &env.action),
     }
 }
 
@@ -80,47 +91,56 @@ pub fn variable(
 }
 
 /// A literal with its type; anything else is skipped.
-fn leaf(alloc: Global, expr: &Expr) -> Result<TypedExpr, AllocError>
-    ensures { IfOk result (λ x. x ≡ leaf expr.now) }
+fn leaf(alloc: Global, schema: &Schema, expr: &Expr) -> Result<TypedExpr, AllocError>
+    ensures { IfOk result (λ x. x ≡ leaf schema.now expr.now) }
 {
     match expr {
-        Expr::Literal(place, literal) => literal_typed(alloc, *place, literal),
+        Expr::Literal(place, literal) => literal_typed(alloc, schema, *place, literal),
         _ => Ok(TypedExpr::Skipped(try_clone(alloc, expr)?)),
     }
 }
 
 /// A literal or a set of literals with their types. The types of the members don't join; the set has
 /// that of the first one.
-pub fn leaves(alloc: Global, expr: &Expr) -> Result<Boxed<TypedExpr>, AllocError>
-    ensures { IfOk result (λ x. x ≡ leaves expr.now) }
+pub fn leaves(alloc: Global, schema: &Schema, expr: &Expr) -> Result<Boxed<TypedExpr>, AllocError>
+    ensures { IfOk result (λ x. x ≡ leaves schema.now expr.now) }
 {
-    Boxed::new(alloc, leaves_typed(alloc, expr)?)
+    Boxed::new(alloc, leaves_typed(alloc, schema, expr)?)
 }
 
-fn leaves_typed(alloc: Global, expr: &Expr) -> Result<TypedExpr, AllocError>
-    ensures { IfOk result (λ x. x ≡ leaves expr.now) }
+fn leaves_typed(alloc: Global, schema: &Schema, expr: &Expr) -> Result<TypedExpr, AllocError>
+    ensures { IfOk result (λ x. x ≡ leaves schema.now expr.now) }
 {
     match expr {
-        Expr::Set(place, members) => leaf_set(alloc, *place, members.as_slice()),
-        _ => leaf(alloc, expr),
+        Expr::Set(place, members) => leaf_set(alloc, schema, *place, members.as_slice()),
+        _ => leaf(alloc, schema, expr),
     }
 }
 
-fn leaf_set(alloc: Global, place: Place, members: &[Expr]) -> Result<TypedExpr, AllocError>
-    ensures { IfOk result (λ x. x ≡ TypedExpr.Set place (Ty.Set (first_type (map leaf members.now)))
-        (map leaf members.now)) }
+fn leaf_set(
+    alloc: Global,
+    schema: &Schema,
+    place: Place,
+    members: &[Expr],
+) -> Result<TypedExpr, AllocError>
+    ensures { IfOk result (λ x. x ≡ TypedExpr.Set place (Ty.Set (first_type (map (leaf schema.now) members.now)))
+        (map (leaf schema.now) members.now)) }
 {
-    let typed = all_leaves(alloc, members)?;
+    let typed = all_leaves(alloc, schema, members)?;
     let member = Shared::new(alloc, first_type(alloc, typed.as_slice())?)?;
     Ok(TypedExpr::Set(place, Ty::Set(member), typed))
 }
 
-fn all_leaves(alloc: Global, members: &[Expr]) -> Result<Seq<TypedExpr>, AllocError>
-    ensures { IfOk result (λ xs. xs ≡ map leaf members.now) }
+fn all_leaves(
+    alloc: Global,
+    schema: &Schema,
+    members: &[Expr],
+) -> Result<Seq<TypedExpr>, AllocError>
+    ensures { IfOk result (λ xs. xs ≡ map (leaf schema.now) members.now) }
 {
     let mut typed = Seq::new(alloc);
     for member in members {
-        typed.push(leaf(alloc, member)?)?;
+        typed.push(leaf(alloc, schema, member)?)?;
     }
     Ok(typed)
 }

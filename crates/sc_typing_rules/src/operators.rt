@@ -11,8 +11,8 @@ ghost use Rattle.sc_schema.specs.Declarations.{ancestor_types};
 ghost use Rattle.sc_typed.specs.Capabilities.{is_known, tag_of};
 ghost use Rattle.sc_typed.specs.Outcomes.{ty};
 ghost use Rattle.sc_typed.specs.Literals.{literal_of};
-ghost use Rattle.sc_typed.specs.Types.{join};
-ghost use Rattle.sc_typing_rules.specs.Operators.{longs, decimals, addresses, address, contained, sets, are_entities, compared, equal_by, may_be_in, within, tags, tag_test, tag_read, binary, given_tag, given_by, opposite, negated, negative, emptiness, reads, read_as, unary};
+ghost use Rattle.sc_typed.specs.Types.{entity_name, join};
+ghost use Rattle.sc_typing_rules.specs.Operators.{longs, decimals, addresses, address, contained, sets, are_apart, compared, equal_by, may_be_in, within, tags, tag_test, tag_read, binary, given_tag, given_by, opposite, negated, negative, emptiness, reads, read_as, unary};
 
 use crate::logic::{boxed_type, joined_type, joined_with};
 use crate::setting::Setting;
@@ -141,7 +141,7 @@ fn compared_types(alloc: Global, place: Place, s: &Ty, t: &Ty) -> Result<Ty, Fau
     if join_to_any(alloc, s, t)? {
         return Ok(Ty::Bool);
     }
-    if are_entities(s, t) {
+    if are_apart(s, t) {
         return Ok(Ty::False);
     }
     Err(Fault::Told(TypeFault {
@@ -163,10 +163,17 @@ fn join_to_any(alloc: Global, s: &Ty, t: &Ty) -> Result<bool, AllocError>
     }
 }
 
-fn are_entities(s: &Ty, t: &Ty) -> bool
-    ensures { result ≡ are_entities s.now t.now }
+/// Whether two types are of entities and have different names.
+fn are_apart(s: &Ty, t: &Ty) -> bool
+    ensures { result ≡ are_apart (entity_name s.now) (entity_name t.now) }
 {
-    entity_name(s).is_some() && entity_name(t).is_some()
+    let Some(first) = entity_name(s) else {
+        return false;
+    };
+    let Some(second) = entity_name(t) else {
+        return false;
+    };
+    first.as_str() != second.as_str()
 }
 
 /// `a in b`: whether an entity of the one type may be of the other one, or in it.

@@ -85,7 +85,7 @@ fn residue_in(
 }
 
 /// What typing answers of a policy in an environment.
-fn answer_of(
+pub(crate) fn answer_of(
     alloc: Global,
     schema: &Schema,
     env: &Env,

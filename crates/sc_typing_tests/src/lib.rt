@@ -6,6 +6,8 @@
 #[cfg(test)]
 mod answers;
 #[cfg(test)]
+mod choices;
+#[cfg(test)]
 mod names;
 #[cfg(test)]
 mod policies;

@@ -2,9 +2,9 @@
 use crate::samples::{is_text, name, uid};
 use sc_decimal::write_decimal;
 use sc_ip::write_ip;
-use sc_lists::{Boxed, Seq, Text};
+use sc_lists::{Boxed, Seq, Shared, Text};
 use sc_names::{Name, Uid, put_escaped, put_uid};
-use sc_schema::{Attributes, Presence, Ty};
+use sc_schema::{Attributes, EntityKind, Presence, Ty};
 use sc_sorts::{Sort, default_of, sort_of, try_clone};
 use sc_values::{Rec, Value};
 use std::alloc::{AllocError, Global};
@@ -29,6 +29,23 @@ fn listed(alloc: Global) -> Result<Seq<Uid>, AllocError> {
 fn actions(alloc: Global) -> Result<Sort, AllocError> {
     let name = name(alloc, "Action")?;
     Ok(Sort::Entity(name, listed(alloc)?))
+}
+
+/// An enumerated type, whose choices aren't in the order of their texts.
+fn paint_type(alloc: Global) -> Result<Ty, AllocError> {
+    let mut choices = Seq::new(alloc);
+    choices.push(Text::from_str(alloc, "red")?)?;
+    choices.push(Text::from_str(alloc, "green")?)?;
+    Ok(Ty::Entity(EntityKind {
+        name: name(alloc, "Paint")?,
+        choices: Shared::new(alloc, choices)?,
+    }))
+}
+
+/// The sort of that type.
+fn paints(alloc: Global) -> Result<Sort, AllocError> {
+    let ty = paint_type(alloc)?;
+    sort_of(alloc, &ty)
 }
 
 /// The type of records of a level, perhaps a nick, and a truth value.
@@ -61,7 +78,7 @@ fn set_of_longs(alloc: Global) -> Result<Sort, AllocError> {
     Ok(Sort::Set(member))
 }
 
-/// A sort of each kind, and actions beside other entities.
+/// A sort of each kind, and actions and entities of an enumerated type beside other entities.
 #[derive(Clone, Copy)]
 enum Sample {
     Bool,
@@ -71,6 +88,7 @@ enum Sample {
     Ip,
     Users,
     Actions,
+    Paints,
     Set,
     Record,
     Option,
@@ -85,6 +103,7 @@ fn sort(alloc: Global, sample: Sample) -> Result<Sort, AllocError> {
         Sample::Ip => Ok(Sort::Ip),
         Sample::Users => entities(alloc, "User"),
         Sample::Actions => actions(alloc),
+        Sample::Paints => paints(alloc),
         Sample::Set => set_of_longs(alloc),
         Sample::Record => records(alloc),
         Sample::Option => users_option(alloc),
@@ -139,8 +158,9 @@ const DEFAULTS: &[(Sample, &str)] = &[
     (Sample::Decimal, "0.0000"),
     (Sample::Ip, "0.0.0.0/32"),
     (Sample::Users, r#"User::"""#),
-    // the least that is listed
+    // the first that is listed
     (Sample::Actions, r#"Action::"buy""#),
+    (Sample::Paints, r#"Paint::"red""#),
     (Sample::Set, "[]"),
     // without the field that may be absent
     (Sample::Record, "level: 0; on: false; "),
@@ -230,6 +250,8 @@ const COPIES: &[(Sample, &str)] = &[
     (Sample::Ip, "Ip"),
     (Sample::Users, "User"),
     (Sample::Actions, "Action buy view"),
+    // in the order in which they are declared
+    (Sample::Paints, "Paint red green"),
     (Sample::Set, "set of Long"),
     // the sort of its type: the field that may be absent has options
     (

@@ -81,7 +81,7 @@ step_no_record t.Long fields other = ap is_long (out_Record fields)
 step_no_record t.String fields other = ap is_string (out_Record fields)
 step_no_record t.Decimal fields other = ap is_decimal (out_Record fields)
 step_no_record t.Ip fields other = ap is_ip (out_Record fields)
-step_no_record (t.Entity name) fields other = ap (is_entity_of name) (out_Record fields)
+step_no_record (t.Entity kind) fields other = ap (is_entity_of kind) (out_Record fields)
 step_no_record (t.Set member) fields other = ap (is_set_of (conforms member)) (out_Record fields)
 step_no_record (t.Record attributes) fields other = absurd (other attributes refl)
 

@@ -12,17 +12,19 @@ use Rattle.sc_lists.proofs.ListLaws.{all_append}
 use Rattle.sc_names.specs.declared.uid.Uid.{Uid}
 use Rattle.sc_names.specs.Uids.{text_cmp}
 use Rattle.sc_schema.specs.declared.declarations.EntityType.{EntityType}
+use Rattle.sc_schema.specs.declared.ty.EntityKind.{EntityKind}
 use Rattle.sc_schema.specs.declared.ty.Presence.{Presence}
 use Rattle.sc_schema.specs.declared.ty.Ty.{Ty, Ty-F, roll-Ty, map-Ty, ind-Ty, fold-roll-Ty}
 use Rattle.sc_schema.specs.declared.ty.Ty.TheOpen as t
-use Rattle.sc_schema.specs.Declarations.{Declarations, entity_type, attrs_of, is_action_type}
-use Rattle.sc_schema.specs.Lawful.{IsEntityType, IsTypeLevel, IsTypeOf, IsLawful}
+use Rattle.sc_schema.specs.Declarations.{Declarations, entity_type, attrs_of, choices_of, is_action_type}
+use Rattle.sc_schema.specs.Lawful.{IsEntityType, IsEntityKind, IsTypeLevel, IsTypeOf, IsLawful}
 use Rattle.sc_values.specs.declared.value.Value.{Value, Value-F, out-Value, roll-Value, map-Value, fold_out-Value, roll-out-Value}
 use Rattle.sc_values.specs.declared.value.Value.TheOpen as v
 use Rattle.sc_values.specs.declared.value.Value.TheVariants.{rolls-Set, rolls-Record}
 use Rattle.sc_values.specs.Proper.{IsProper, IsProperLevel}
 use Rattle.sc_values.specs.Records.{Fields, field}
 use Rattle.sc_values.proofs.LevelLaws as level
+use Rattle.sc_world.specs.Choices.{is_choice, IsChoice}
 use Rattle.sc_world.specs.Conforms.{Test, Shape, is_bool, is_truth, is_long, is_string, is_decimal, is_ip, is_entity_of, is_set_of, is_record_of, passes, conforms_step, conforms}
 use Rattle.sc_world.specs.Named.{uids_step, uids_in, IsDeclared}
 use Rattle.sc_world.proofs.DefaultTypeLaws.{type_named}
@@ -34,9 +36,9 @@ attrs_where : (b : Bool) (x y : Option Ty) → b ≡ false → cond b x y ≡ y
 attrs_where true x y h = absurd cc
 attrs_where false x y h = refl
 
--- an entity of an entity type that is declared
-pub declared_type : (s : Declarations) (name : List ℕ) (u : Uid) → IsLawful s → IsEntityType s name → u.type_name ≡ name → IsDeclared s u
-declared_type s name u lawful declared named =
+-- an entity of an entity type that is declared, a choice where the type is enumerated
+pub declared_type : (s : Declarations) (name : List ℕ) (u : Uid) → IsLawful s → IsEntityType s name → u.type_name ≡ name → IsChoice s u → IsDeclared s u
+declared_type s name u lawful declared named chosen =
     let it = type_named s name lawful declared in
     let is : u.type_name ≡ it.type.name = named ∙ it.named in
     let other : is_action_type s u.type_name ≡ false = ap (is_action_type s) is ∙ it.lawful.no_action in
@@ -45,6 +47,7 @@ declared_type s name u lawful declared named =
     record {
       of_type = ap is_some attrs;
       as_action = λ h. let no : false ≡ true = sym other ∙ h in absurd cc;
+      as_choice = chosen;
     }
 
 -- ---- records as look-ups see them
@@ -123,9 +126,13 @@ module _ (s : Declarations) (lawful : IsLawful s) where
   of_ip (v.Ip ip) p h = tt
   of_ip _ p h = absurd cc
 
-  of_entity : (name : List ℕ) → IsEntityType s name → LevelsDeclare (is_entity_of name)
-  of_entity name declared (v.Entity u) p h = (declared_type s name u lawful declared ((bytes_eq-Decides u.type_name name).0 h), tt)
-  of_entity name declared _ p h = absurd cc
+  of_entity : (kind : EntityKind) → IsEntityKind s kind → LevelsDeclare (is_entity_of kind)
+  of_entity kind declared (v.Entity u) p h =
+      let parts = and_parts (bytes_eq u.type_name kind.name) (is_choice kind.choices u.id) h in
+      let named = (bytes_eq-Decides u.type_name kind.name).0 parts.0 in
+      let same : kind.choices ≡ choices_of s u.type_name = declared.1 ∙ ap (choices_of s) (sym named) in
+      (declared_type s kind.name u lawful declared.0 named (subst (λ (ids : List (List ℕ)). IsTrue (is_choice ids u.id)) same parts.1), tt)
+  of_entity kind declared _ p h = absurd cc
 
   members : (test : Test) → NamesDeclared test → (xs : List Value) → AllByRecursion IsProper xs → IsTrue (list_all test xs) → AreDeclared (flat_map (λ (us : List Uid). us) (map uids_in xs))
   members test d [] p h = tt
@@ -201,7 +208,7 @@ module _ (s : Declarations) (lawful : IsLawful s) where
   step t.String h = from_levels is_string of_string
   step t.Decimal h = from_levels is_decimal of_decimal
   step t.Ip h = from_levels is_ip of_ip
-  step (t.Entity name) h = from_levels (is_entity_of name) (of_entity name (of_type.every_level (IsTypeLevel s) (t.Entity name) h))
+  step (t.Entity kind) h = from_levels (is_entity_of kind) (of_entity kind (of_type.every_level (IsTypeLevel s) (t.Entity kind) h))
   step (t.Set k) h = from_levels (is_set_of (conforms k.0)) (of_set (conforms k.0) (k.1 (of_type.every_member (IsTypeLevel s) k.0 h)))
   step (t.Record ks) h = from_levels (is_record_of (tests ks)) (of_record ks (of_type.every_field (IsTypeLevel s) (attributes_of ks) h))
 

@@ -14,8 +14,8 @@ use Rattle.sc_schema.specs.declared.declarations.EntityType.{EntityType}
 use Rattle.sc_schema.specs.declared.declarations.Env.{Env}
 use Rattle.sc_schema.specs.declared.ty.Ty.{Ty}
 use Rattle.sc_schema.specs.declared.ty.Ty.TheVariants as ty
-use Rattle.sc_schema.specs.Declarations.{Declarations, environment, environments, environments_for, entity_type, action, action_uids, action_ancestors, attrs_of, is_action_type, types_above, ancestor_types, context_of}
-use Rattle.sc_schema.specs.Lawful.{IsRecordTypeOf, IsLawfulAction, IsLawful}
+use Rattle.sc_schema.specs.Declarations.{Declarations, environment, environments, environments_for, entity_type, action, action_uids, action_ancestors, attrs_of, choices_of, is_action_type, types_above, ancestor_types, context_of}
+use Rattle.sc_schema.specs.Lawful.{IsEntityType, AreEntityTypes, IsRecordTypeOf, IsLawfulAction, IsLawful}
 use Rattle.sc_schema.proofs.IndexLaws.{in_order_members}
 use Rattle.sc_schema.proofs.LawfulLaws.{no_fields_lawful, no_names_ascend, no_uids_ascend}
 use Rattle.sc_schema.proofs.LookupLaws.{action_found, action_declared}
@@ -23,13 +23,15 @@ use Rattle.sc_values.specs.declared.value.Value.{Value}
 use Rattle.sc_values.specs.declared.value.Value.TheVariants as value
 use Rattle.sc_values.specs.Proper.{IsProperLevel, IsProperRecord, IsUidText}
 use Rattle.sc_values.proofs.LevelLaws as level
+use Rattle.sc_world.specs.Choices.{is_choice, IsChoice}
 use Rattle.sc_world.specs.Conforms.{conforms}
-use Rattle.sc_world.specs.Defaults.{default_value, default_fields, default_attrs, default_data, default_request}
+use Rattle.sc_world.specs.Defaults.{default_uid, default_value, default_fields, default_attrs, default_data, default_request}
 use Rattle.sc_world.specs.Named.{attribute_uids, IsDeclared, IsRequestAmong}
 use Rattle.sc_world.specs.WellFormed.{Entry, IsProperEntry, HasAttributes, HasAncestorTypes, IsAcyclic, IsAction, action_data}
+use Rattle.sc_world.proofs.ChoiceLaws.{action_choice}
 use Rattle.sc_world.proofs.DeclaredLaws.{names_declared}
 use Rattle.sc_world.proofs.DefaultLaws.{default_Record, fields_Record}
-use Rattle.sc_world.proofs.DefaultTypeLaws.{type_named, IsDefaultOf, default_of, default_uid-type}
+use Rattle.sc_world.proofs.DefaultTypeLaws.{type_named, IsDefaultOf, default_of, default_uid-type, default_choice}
 
 -- ---- lists
 
@@ -79,6 +81,7 @@ module _ (s : Declarations) (lawful : IsLawful s) where
       record {
         of_type = ap is_some (cond_true (is_action_type s a.uid.type_name) (Some (ty.Record [])) _ (of_action_type a has));
         as_action = λ h. ap is_some (action_found s a lawful has);
+        as_choice = action_choice s lawful a.uid (of_action_type a has);
       }
 
   pub declared_uid : (u : Uid) → Contains (action_uids s) u → IsDeclared s u
@@ -252,6 +255,12 @@ module _ (s : Declarations) (lawful : IsLawful s) where
 
   -- ---- the request of an environment, by default
 
+  -- the default entity of a listed type is a choice, if the type is enumerated
+  chosen : (name : List ℕ) {names : List (List ℕ)} → AreEntityTypes s names → Contains names name → IsChoice s (default_uid s name)
+  chosen name {names} types has =
+      subst (λ (n : List ℕ). IsTrue (is_choice (choices_of s n) (default_uid s name).id)) (sym (default_uid-type s name))
+      (default_choice s name lawful (all_element (IsEntityType s) names name types.declared has))
+
   pub default_among : (env : Env) (literals : List Uid) → Contains (environments s) env → AllByRecursion (IsDeclared s) literals → IsRequestAmong s env (default_request s env) literals
   default_among env literals has declared =
       let a = environment_of env has in
@@ -263,6 +272,8 @@ module _ (s : Declarations) (lawful : IsLawful s) where
           principal = default_uid-type s env.principal;
           action = refl;
           resource = default_uid-type s env.resource;
+          principal_choice = chosen env.principal (lawful_action a.it a.among).principal_types a.principal;
+          resource_choice = chosen env.resource (lawful_action a.it a.among).resource_types a.resource;
           context = subst (λ (o : Option Ty). IsSomeAnd o (λ t. IsTrue (conforms t (value.Record (default_fields s (context_of s env.action)))))) (sym found) context.conform;
         };
         context = context.proper;

@@ -47,7 +47,7 @@ step_no_fields s t.Long other = ap fields_in (out_Long _)
 step_no_fields s t.String other = ap fields_in (out_String _)
 step_no_fields s t.Decimal other = ap fields_in (out_Decimal _)
 step_no_fields s t.Ip other = ap fields_in (out_Ip _)
-step_no_fields s (t.Entity name) other = ap fields_in (out_Entity _)
+step_no_fields s (t.Entity kind) other = ap fields_in (out_Entity _)
 step_no_fields s (t.Set member) other = ap fields_in (out_Set _)
 step_no_fields s (t.Record attributes) other = absurd (other attributes refl)
 

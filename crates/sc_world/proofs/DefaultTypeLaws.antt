@@ -4,6 +4,7 @@ use Rattle.std.specs.Int.{w64}
 use Rattle.std.specs.List.{AllByRecursion, flat_map}
 use Rattle.std.specs.Str.{bytes_eq, IsUtf8}
 use Rattle.std.proofs.lemmas.List.Folds.{flat_map-map}
+use Rattle.std.proofs.lemmas.Bool.{and_from}
 use Rattle.std.proofs.lemmas.Slice.Eq.{bytes_eq-Decides}
 use Rattle.sc_lists.proofs.ListLaws.{all_element}
 use Rattle.sc_laws.proofs.OptionLaws.{some_of}
@@ -14,7 +15,7 @@ use Rattle.sc_schema.specs.declared.declarations.EntityType.{EntityType}
 use Rattle.sc_schema.specs.declared.ty.Presence.{Presence}
 use Rattle.sc_schema.specs.declared.ty.Ty.{Ty, Ty-F, roll-Ty, map-Ty, ind-Ty, fold-roll-Ty}
 use Rattle.sc_schema.specs.declared.ty.Ty.TheOpen as t
-use Rattle.sc_schema.specs.Declarations.{Declarations, entity_type, action_uids}
+use Rattle.sc_schema.specs.Declarations.{Declarations, entity_type, action_uids, choices_of, is_action_type}
 use Rattle.sc_schema.specs.Lawful.{AreAscending, names_of_fields, IsEntityType, IsTypeLevel, IsTypeOf, IsLawful, IsLawfulAction, IsLawfulType}
 use Rattle.sc_schema.proofs.LawfulLaws.{ascii_text, sorted}
 use Rattle.sc_schema.proofs.LookupLaws.{type_declared}
@@ -25,10 +26,12 @@ use Rattle.sc_values.specs.Proper.{IsProper, IsProperLevel, IsUidText}
 use Rattle.sc_values.specs.Records.{Fields}
 use Rattle.sc_values.proofs.EveryLaws as every
 use Rattle.sc_values.proofs.OutLaws.{out_Bool, out_Long, out_String, out_Entity, out_Set, out_Record, out_Decimal, out_Ip}
+use Rattle.sc_world.specs.Choices.{is_choice}
 use Rattle.sc_world.specs.Conforms.{Test, conforms, conforms_step, is_bool, is_truth, is_long, is_string, is_decimal, is_ip, is_entity_of, is_set_of, is_record_of, has_shape, shape_of}
-use Rattle.sc_world.specs.Defaults.{default_uid, default_value, default_step, default_field, nameless}
+use Rattle.sc_world.specs.Defaults.{default_uid, default_value, default_step, default_field, first_entity}
 use Rattle.sc_world.proofs.ConformsLaws.{has_shape_tested}
-use Rattle.sc_world.proofs.DefaultLaws.{Attribute, required_fields}
+use Rattle.sc_world.proofs.ChoiceLaws.{first_type, first_text, first_choice, choice_texts}
+use Rattle.sc_world.proofs.DefaultLaws.{Attribute, required_fields, no_action}
 use Rattle.sc_world.proofs.RequiredLaws.{fields-all, names-all, names-ascend, required_pass, required_declared}
 use Rattle.sc_world.proofs.TypeLaws as of_type
 
@@ -47,7 +50,7 @@ named_by name [] v e = absurd cc
 named_by name (u ∷ us) v e = named_at name u v (bytes_eq name u.type_name) _ refl (named_by name us v) e
 
 pub default_uid-type : (s : Declarations) (name : List ℕ) → (default_uid s name).type_name ≡ name
-default_uid-type s name = found_or (λ u. u.type_name ≡ name) _ (nameless name) (named_by name (action_uids s)) refl
+default_uid-type s name = found_or (λ u. u.type_name ≡ name) _ (first_entity name (choices_of s name)) (named_by name (action_uids s)) (first_type name (choices_of s name))
 
 found_at : (P : Uid → Type 0) (u v : Uid) (b : Bool) (rest : Option Uid) → P u → (rest ≡ Some v → P v) → cond b (Some u) rest ≡ Some v → P v
 found_at P u v true rest h later e = let one : u ≡ v = cc in subst P one h
@@ -63,9 +66,9 @@ action_texts s (a ∷ actions) h = ((h.0.type_text, h.0.id_text), action_texts s
 
 pub default_uid-text : (s : Declarations) (name : List ℕ) → IsLawful s → IsUtf8 name → IsUidText (default_uid s name)
 default_uid-text s name lawful text =
-    found_or IsUidText (find (λ (u : Uid). bytes_eq name u.type_name) (action_uids s)) (nameless name)
+    found_or IsUidText (find (λ (u : Uid). bytes_eq name u.type_name) (action_uids s)) (first_entity name (choices_of s name))
     (λ v e. found_all IsUidText (λ (u : Uid). bytes_eq name u.type_name) (action_uids s) v (action_texts s s.actions lawful.each_action) e)
-    (text, ascii_text [] refl)
+    (first_text name (choices_of s name) text (choice_texts s lawful name))
 
 -- ---- declared types
 
@@ -86,6 +89,14 @@ pub type_text : (s : Declarations) (name : List ℕ) → IsLawful s → IsEntity
 type_text s name lawful declared =
     let it = type_named s name lawful declared in
     subst IsUtf8 (sym it.named) it.lawful.text
+
+-- the default entity of an entity type is a choice, if the type is enumerated
+pub default_choice : (s : Declarations) (name : List ℕ) → IsLawful s → IsEntityType s name → is_choice (choices_of s name) (default_uid s name).id ≡ true
+default_choice s name lawful declared =
+    let it = type_named s name lawful declared in
+    let plain : is_action_type s name ≡ false = ap (is_action_type s) it.named ∙ it.lawful.no_action in
+    subst (λ (o : Option Uid). is_choice (choices_of s name) (unwrap_or o (first_entity name (choices_of s name))).id ≡ true)
+    (no_action s name (is_action_type s name) refl plain) (first_choice name (choices_of s name))
 
 -- ---- types
 
@@ -163,11 +174,14 @@ module _ (s : Declarations) (lawful : IsLawful s) where
   level t.String h = record { conform = ap is_string (out_String []); proper = every.every_String IsProperLevel [] (ascii_text [] refl) }
   level t.Decimal h = record { conform = ap is_decimal (out_Decimal (pos 0)); proper = every.every_Decimal IsProperLevel (pos 0) zero_fits }
   level t.Ip h = record { conform = ap is_ip (out_Ip (V4 0 32)); proper = every.every_Ip IsProperLevel (V4 0 32) (omega arith, omega arith) }
-  level (t.Entity name) h =
-      let declared = of_type.every_level (IsTypeLevel s) (t.Entity name) h in
+  level (t.Entity kind) h =
+      let declared = of_type.every_level (IsTypeLevel s) (t.Entity kind) h in
+      let u = default_uid s kind.name in
+      let named = (bytes_eq-Decides u.type_name kind.name).1 (default_uid-type s kind.name) in
+      let chosen = subst (λ (ids : List (List ℕ)). is_choice ids u.id ≡ true) (sym declared.1) (default_choice s kind.name lawful declared.0) in
       record {
-        conform = ap (is_entity_of name) (out_Entity (default_uid s name)) ∙ (bytes_eq-Decides (default_uid s name).type_name name).1 (default_uid-type s name);
-        proper = every.every_Entity IsProperLevel (default_uid s name) (default_uid-text s name lawful (type_text s name lawful declared));
+        conform = ap (is_entity_of kind) (out_Entity u) ∙ and_from _ _ named chosen;
+        proper = every.every_Entity IsProperLevel u (default_uid-text s kind.name lawful (type_text s kind.name lawful declared.0));
       }
   level (t.Set k) h = record { conform = ap (is_set_of (conforms k.0)) (out_Set []); proper = every.every_Set IsProperLevel [] (sorted value_cmp [] refl) tt }
   level (t.Record ks) h =

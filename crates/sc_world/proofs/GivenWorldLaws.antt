@@ -19,6 +19,7 @@ use Rattle.sc_values.specs.Records.{Fields}
 use Rattle.sc_values.proofs.LevelLaws as level
 use Rattle.sc_world.specs.declared.entity.EntityData.{EntityData}
 use Rattle.sc_world.specs.declared.world.Request.{Request}
+use Rattle.sc_world.specs.Choices.{IsChoice}
 use Rattle.sc_world.specs.Conforms.{conforms}
 use Rattle.sc_world.specs.Defaults.{default_data}
 use Rattle.sc_world.specs.Filling.{HaveTexts}
@@ -27,7 +28,7 @@ use Rattle.sc_world.specs.Least.{wanted}
 use Rattle.sc_world.specs.Named.{uids_in, uids_in_data, uids_in_entry, request_uids, attribute_uids, IsDeclared, IsRequestAmong}
 use Rattle.sc_world.specs.Sound.{IsSoundEntry, AreSound}
 use Rattle.sc_world.specs.Stores.{Entities, stored, IsMap}
-use Rattle.sc_world.specs.WellFormed.{Entry, IsStored, IsTransitive, IsWellFormed}
+use Rattle.sc_world.specs.WellFormed.{Entry, IsStored, IsTransitive, HasChoices, IsWellFormed}
 use Rattle.sc_world.proofs.DeclaredLaws.{declared_type, names_declared}
 use Rattle.sc_world.proofs.DefaultEntityLaws.{cond_true, lawful_action, of_action_type, declared_action, declared_uid, declared_stands, action_of, environment_of, attribute_type, attributes_declared, by_action, default_ancestor, has_ancestor_types, is_acyclic, stored_action, no_tags, has_attributes, proper_entry}
 use Rattle.sc_world.proofs.DefaultTypeLaws.{type_named}
@@ -112,8 +113,9 @@ module _ (s : Declarations) (lawful : IsLawful s) where
       subst AreDeclared (sym above)
       (all_weaker (λ v. IsSome (action s v)) (IsDeclared s) (λ v is. declared_uid s lawful v (declared_stands s lawful v is)) a.0.ancestors (lawful_action s lawful a.0 a.1).declared)
   ancestors_declared es u e false kind h =
-      all_weaker (λ (v : Uid). IsSomeAnd (ancestor_types s u.type_name) (λ types. Contains types v.type_name)) (IsDeclared s)
-      (λ v is. declared_type s v.type_name v lawful (above_entity u.type_name v.type_name kind is) refl) e.ancestors h.ancestor_types
+      all_of_elements (IsDeclared s) e.ancestors (λ v has.
+      let is = all_element (λ (a : Uid). IsSomeAnd (ancestor_types s u.type_name) (λ types. Contains types a.type_name)) e.ancestors v h.ancestor_types has in
+      declared_type s v.type_name v lawful (above_entity u.type_name v.type_name kind is) refl (all_element (IsChoice s) e.ancestors v h.choices.ancestors has))
 
   sound_named : (es : Entities) (u : Uid) (e : EntityData) → IsSoundEntry s es (u, e) → AreDeclared (uids_in_data e)
   sound_named es u e h =
@@ -129,6 +131,7 @@ module _ (s : Declarations) (lawful : IsLawful s) where
         as_action = λ kind.
             let a = h.action kind in
             subst (λ (v : Uid). IsSome (action s v)) (sym (ap (λ (x : Entry). x.0) a.2)) (ap is_some (action_found s a.0 lawful a.1));
+        as_choice = h.choices.uid;
       }
 
   default_named : (u : Uid) → IsDeclared s u → AreDeclared (uids_in_data (default_data s u))
@@ -188,12 +191,12 @@ module _ (s : Declarations) (lawful : IsLawful s) where
       principal_declared : IsDeclared s r.principal
       principal_declared =
           let a = environment_of s lawful env among.environment in
-          declared_type s env.principal r.principal lawful (entity_type_among a.it.principals env.principal (lawful_action s lawful a.it a.among).principal_types a.principal) among.request.principal
+          declared_type s env.principal r.principal lawful (entity_type_among a.it.principals env.principal (lawful_action s lawful a.it a.among).principal_types a.principal) among.request.principal among.request.principal_choice
 
       resource_declared : IsDeclared s r.resource
       resource_declared =
           let a = environment_of s lawful env among.environment in
-          declared_type s env.resource r.resource lawful (entity_type_among a.it.resources env.resource (lawful_action s lawful a.it a.among).resource_types a.resource) among.request.resource
+          declared_type s env.resource r.resource lawful (entity_type_among a.it.resources env.resource (lawful_action s lawful a.it a.among).resource_types a.resource) among.request.resource among.request.resource_choice
 
       action_is_declared : IsDeclared s r.action
       action_is_declared = let a = environment_of s lawful env among.environment in subst (IsDeclared s) (sym (among.request.action ∙ a.named)) (declared_action s lawful a.it a.among)
@@ -238,6 +241,7 @@ module _ (s : Declarations) (lawful : IsLawful s) where
             transitive = all_of_elements (λ b. IfSome (stored b es) (λ d. AllByRecursion (Contains e.ancestors) d.ancestors)) e.ancestors (λ b has. given_transitive u e h b has (stored b es) refl);
             acyclic = h.acyclic;
             action = h.action;
+            choices = h.choices;
           }
 
       default_transitive_at : (us : List Uid) (b : Uid) → IsActionWithin s us b → IsSome (action s b) → (o : Option EntityData) → stored b es ≡ o → IfSome o (λ d. AllByRecursion (Contains us) d.ancestors)
@@ -255,6 +259,13 @@ module _ (s : Declarations) (lawful : IsLawful s) where
           default_transitive_at a.it.ancestors b (all_element (IsActionWithin s a.it.ancestors) a.it.ancestors b it.closed has)
           (all_element (λ v. IsSome (action s v)) a.it.ancestors b it.declared has) (stored b es) refl))
 
+      default_choices : (u : Uid) → IsDeclared s u → HasChoices s (u, default_data s u)
+      default_choices u declared =
+          record {
+            uid = declared.as_choice;
+            ancestors = all_of_elements (IsChoice s) (default_data s u).ancestors (λ v has. (declared_uid s lawful v (default_ancestor s lawful u v has)).as_choice);
+          }
+
       default_sound : (u : Uid) → IsDeclared s u → IsUidText u → IsSoundEntry s es (u, default_data s u)
       default_sound u declared text =
           record {
@@ -265,6 +276,7 @@ module _ (s : Declarations) (lawful : IsLawful s) where
             transitive = default_transitive u;
             acyclic = is_acyclic s lawful u;
             action = stored_action s lawful u declared;
+            choices = default_choices u declared;
           }
 
       entry_sound : (u : Uid) → IsDeclared s u → IsUidText u → (o : Option EntityData) → stored u given ≡ o → IsSoundEntry s es (u, unwrap_or o (default_data s u))

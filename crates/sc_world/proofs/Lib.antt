@@ -1,5 +1,6 @@
 pub mod StoreLaws
 pub mod ConformsLaws
+pub mod ChoiceLaws
 mod ActionLaws
 mod AncestorLaws
 mod LeastLaws

@@ -12,7 +12,7 @@ use Rattle.sc_world.specs.declared.world.World.{World}
 use Rattle.sc_world.specs.Named.{uids_in, uids_in_entry, request_uids}
 use Rattle.sc_world.specs.Sound.{IsSoundEntry}
 use Rattle.sc_world.specs.Stores.{Entities}
-use Rattle.sc_world.specs.WellFormed.{Entry, HasAttributes, HasTags, HasAncestorTypes, IsTransitive, IsAcyclic, IsAction, EntryNamesStored, IsProperEntry, IsStored, IsWellFormed}
+use Rattle.sc_world.specs.WellFormed.{Entry, HasAttributes, HasTags, HasAncestorTypes, IsTransitive, IsAcyclic, IsAction, HasChoices, EntryNamesStored, IsProperEntry, IsStored, IsWellFormed}
 use Rattle.sc_world.specs.Tests.{HasWellFormedParts}
 use Rattle.sc_world.proofs.UidsLaws.{all-left, all-right, names_agree}
 
@@ -64,6 +64,7 @@ record HasSoundness (s : Declarations) (es xs : Entities) : Type 0 where
   transitive : AllByRecursion (IsTransitive es) xs
   acyclic : AllByRecursion IsAcyclic xs
   actions : AllByRecursion (IsAction s) xs
+  choices : AllByRecursion (HasChoices s) xs
 
 by_entries : (s : Declarations) (es xs : Entities) → HasSoundness s es xs → AllByRecursion (IsSoundEntry s es) xs
 by_entries s es [] h = tt
@@ -76,6 +77,7 @@ by_entries s es (x ∷ xs) h = (
     transitive = h.transitive.0;
     acyclic = h.acyclic.0;
     action = h.actions.0;
+    choices = h.choices.0;
   },
   by_entries s es xs (record {
     proper = h.proper.1;
@@ -85,6 +87,7 @@ by_entries s es (x ∷ xs) h = (
     transitive = h.transitive.1;
     acyclic = h.acyclic.1;
     actions = h.actions.1;
+    choices = h.choices.1;
   }),
 )
 
@@ -112,6 +115,7 @@ parts-well_formed s env literals w h =
       transitive = all_weaker (IsSoundEntry s es) (IsTransitive es) (λ x e. e.transitive) es h.sound;
       acyclic = all_weaker (IsSoundEntry s es) IsAcyclic (λ x e. e.acyclic) es h.sound;
       actions = all_weaker (IsSoundEntry s es) (IsAction s) (λ x e. e.action) es h.sound;
+      choices = all_weaker (IsSoundEntry s es) (HasChoices s) (λ x e. e.choices) es h.sound;
       declared_actions = named_actions es s.actions (all-right (IsStored es) literals (action_uids s) last);
       closed = record {
         principal = here.0;
@@ -139,6 +143,7 @@ well_formed-parts s env literals w h =
         transitive = h.transitive;
         acyclic = h.acyclic;
         actions = h.actions;
+        choices = h.choices;
       });
       stored = all_append (IsStored es) (request_uids w.request) (flat_map uids_in_entry es ++ (literals ++ action_uids s)) request
           (all_append (IsStored es) (flat_map uids_in_entry es) (literals ++ action_uids s) (entries_named es es h.closed.entries)

@@ -26,7 +26,7 @@ module _ (P : Ty-F Ty → Type 0) where
   set_member member t.String e = absurd cc
   set_member member t.Decimal e = absurd cc
   set_member member t.Ip e = absurd cc
-  set_member member (t.Entity name) e = absurd cc
+  set_member member (t.Entity kind) e = absurd cc
   set_member member (t.Set x) e = let is : x.0 ≡ member = cc in subst (every-Ty P) is x.1
   set_member member (t.Record fields) e = absurd cc
 
@@ -48,7 +48,7 @@ module _ (P : Ty-F Ty → Type 0) where
   record_fields fields t.String e = absurd cc
   record_fields fields t.Decimal e = absurd cc
   record_fields fields t.Ip e = absurd cc
-  record_fields fields (t.Entity name) e = absurd cc
+  record_fields fields (t.Entity kind) e = absurd cc
   record_fields fields (t.Set x) e = absurd cc
   record_fields fields (t.Record es) e =
       let is : map (λ (x : List ℕ × Presence × Held). (x.0, x.1, x.2.0)) es ≡ fields = cc in

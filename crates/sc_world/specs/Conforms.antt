@@ -2,6 +2,7 @@
 use Rattle.std.specs.Prelude.{◌&&◌, ℕ, List, map, Bool, true, false, not, Option, Some, None}
 use Rattle.std.specs.List.{list_all, list_any}
 use Rattle.std.specs.Str.{bytes_eq}
+use Rattle.sc_schema.specs.declared.ty.EntityKind.{EntityKind}
 use Rattle.sc_schema.specs.declared.ty.Presence.{Presence}
 use Rattle.sc_schema.specs.declared.ty.Presence.TheVariants.{Required, Optional}
 use Rattle.sc_schema.specs.declared.ty.Ty.{Ty, Ty-F, fold-Ty}
@@ -9,6 +10,7 @@ use Rattle.sc_schema.specs.declared.ty.Ty.TheOpen as t
 use Rattle.sc_values.specs.declared.value.Value.{Value, Value-F, out-Value}
 use Rattle.sc_values.specs.declared.value.Value.TheOpen as v
 use Rattle.sc_values.specs.Records.{Fields, field}
+use Rattle.sc_world.specs.Choices.{is_choice}
 
 -- the test of a type
 abbrev pub Test : Type 0
@@ -40,9 +42,10 @@ abbrev pub is_ip : Value-F Value → Bool
 is_ip (v.Ip ip) = true
 is_ip _ = false
 
-abbrev pub is_entity_of : List ℕ → Value-F Value → Bool
-is_entity_of name (v.Entity u) = bytes_eq u.type_name name
-is_entity_of name _ = false
+-- an entity of a type, with a choice as its id if the type is enumerated
+abbrev pub is_entity_of : EntityKind → Value-F Value → Bool
+is_entity_of kind (v.Entity u) = bytes_eq u.type_name kind.name && is_choice kind.choices u.id
+is_entity_of kind _ = false
 
 -- a set with members of a type
 abbrev pub is_set_of : Test → Value-F Value → Bool
@@ -80,7 +83,7 @@ conforms_step t.Long x = is_long (out-Value x)
 conforms_step t.String x = is_string (out-Value x)
 conforms_step t.Decimal x = is_decimal (out-Value x)
 conforms_step t.Ip x = is_ip (out-Value x)
-conforms_step (t.Entity name) x = is_entity_of name (out-Value x)
+conforms_step (t.Entity kind) x = is_entity_of kind (out-Value x)
 conforms_step (t.Set test) x = is_set_of test (out-Value x)
 conforms_step (t.Record shape) x = is_record_of shape (out-Value x)
 

@@ -8,7 +8,7 @@ use Rattle.sc_schema.specs.declared.ty.Presence.{Presence}
 use Rattle.sc_schema.specs.declared.ty.Presence.TheVariants.{Required, Optional}
 use Rattle.sc_schema.specs.declared.ty.Ty.{Ty, Ty-F, fold-Ty}
 use Rattle.sc_schema.specs.declared.ty.Ty.TheOpen as t
-use Rattle.sc_schema.specs.Declarations.{Declarations, action_uids, action_ancestors, attrs_of, context_of}
+use Rattle.sc_schema.specs.Declarations.{Declarations, action_uids, action_ancestors, attrs_of, choices_of, context_of}
 use Rattle.sc_values.specs.declared.value.Value.{Value, Value-F, out-Value}
 use Rattle.sc_values.specs.declared.value.Value.TheOpen as v
 use Rattle.sc_values.specs.declared.value.Value.TheVariants as value
@@ -20,9 +20,15 @@ use Rattle.sc_world.specs.declared.world.Request.{Request}
 abbrev pub nameless : List ℕ → Uid
 nameless name = record { type_name = name; id = [] }
 
--- the default entity of a type: its least declared action, and where it has none the entity with no id
+-- the first entity of a type with these choices: with the first of them as its id, and with no id where there is none
+abbrev pub first_entity : List ℕ → List (List ℕ) → Uid
+first_entity name [] = nameless name
+first_entity name (id ∷ ids) = record { type_name = name; id = id }
+
+-- the default entity of a type: its least declared action, and where it has none its first entity
 abbrev pub default_uid : Declarations → List ℕ → Uid
-default_uid s name = unwrap_or (find (λ (u : Uid). bytes_eq name u.type_name) (action_uids s)) (nameless name)
+default_uid s name = unwrap_or (find (λ (u : Uid). bytes_eq name u.type_name) (action_uids s))
+    (first_entity name (choices_of s name))
 
 -- a record has by default the fields that it may not lack
 abbrev pub default_field : Presence → List ℕ → Value → Fields
@@ -37,7 +43,7 @@ default_step s t.Long = value.Long (pos 0)
 default_step s t.String = value.String []
 default_step s t.Decimal = value.Decimal (pos 0)
 default_step s t.Ip = value.Ip (V4 0 32)
-default_step s (t.Entity name) = value.Entity (default_uid s name)
+default_step s (t.Entity kind) = value.Entity (default_uid s kind.name)
 default_step s (t.Set member) = value.Set []
 default_step s (t.Record fields) =
     value.Record (flat_map (λ (f : List ℕ × Presence × Value). default_field f.1 f.0 f.2) fields)

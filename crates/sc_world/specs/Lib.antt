@@ -1,4 +1,5 @@
 pub mod Stores
+pub mod Choices
 pub mod Conforms
 pub mod WellFormed
 pub mod Sound

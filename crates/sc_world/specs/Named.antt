@@ -10,6 +10,7 @@ use Rattle.sc_values.specs.declared.value.Value.TheVariants.{Record}
 use Rattle.sc_values.specs.Proper.{IsProperRecord}
 use Rattle.sc_world.specs.declared.entity.EntityData.{EntityData}
 use Rattle.sc_world.specs.declared.world.Request.{Request}
+use Rattle.sc_world.specs.Choices.{IsChoice}
 use Rattle.sc_world.specs.Stores.{Entities}
 use Rattle.sc_world.specs.WellFormed.{Entry, IsStored, IsRequestOf}
 use Rattle.sc_world.specs.Defaults.{default_attrs, default_data}
@@ -56,10 +57,12 @@ StoresNamed s r literals es = (u : Uid) → IsStored es u ↔ IsNamed s r litera
 abbrev pub AreDefaults : Declarations → Entities → Type 0
 AreDefaults s es = AllByRecursion (λ (x : Entry). x.1 ≡ default_data s x.0) es
 
--- an entity of a declared type, and a declared action where the type is one of actions
+-- an entity of a declared type, a declared action where the type is one of actions, and a choice where the type is
+-- enumerated
 pub record IsDeclared (s : Declarations) (u : Uid) : Type 0 where
   pub of_type : IsSome (attrs_of s u.type_name)
   pub as_action : IsTrue (is_action_type s u.type_name) → IsSome (action s u)
+  pub as_choice : IsChoice s u
 
 -- a request of one of the schema's environments, and entities that are declared
 pub record IsRequestAmong (s : Declarations) (env : Env) (r : Request) (literals : List Uid) : Type 0 where

@@ -2,7 +2,7 @@
 use Rattle.std.specs.List.{AllByRecursion}
 use Rattle.sc_schema.specs.Declarations.{Declarations}
 use Rattle.sc_world.specs.Stores.{Entities}
-use Rattle.sc_world.specs.WellFormed.{Entry, IsProperEntry, HasAttributes, HasTags, HasAncestorTypes, IsTransitive, IsAcyclic, IsAction}
+use Rattle.sc_world.specs.WellFormed.{Entry, IsProperEntry, HasAttributes, HasTags, HasAncestorTypes, IsTransitive, IsAcyclic, IsAction, HasChoices}
 
 -- what is stored of an entity is as its type, its ancestors and its kind have it
 pub record IsSoundEntry (s : Declarations) (es : Entities) (x : Entry) : Type 0 where
@@ -13,6 +13,7 @@ pub record IsSoundEntry (s : Declarations) (es : Entities) (x : Entry) : Type 0 
   pub transitive : IsTransitive es x
   pub acyclic : IsAcyclic x
   pub action : IsAction s x
+  pub choices : HasChoices s x
 
 -- each stored entity is so
 abbrev pub AreSound : Declarations → Entities → Type 0

@@ -15,6 +15,7 @@ use Rattle.sc_world.specs.declared.entity.EntityData.{EntityData}
 use Rattle.sc_world.specs.declared.world.Request.{Request}
 use Rattle.sc_world.specs.declared.world.World.{World}
 use Rattle.sc_world.specs.Stores.{Entities, stored, IsMap}
+use Rattle.sc_world.specs.Choices.{IsChoice}
 use Rattle.sc_world.specs.Conforms.{conforms}
 
 abbrev pub Entry : Type 0
@@ -49,6 +50,8 @@ pub record IsRequestOf (s : Declarations) (env : Env) (r : Request) : Type 0 whe
   pub principal : r.principal.type_name ≡ env.principal
   pub action : r.action ≡ env.action
   pub resource : r.resource.type_name ≡ env.resource
+  pub principal_choice : IsChoice s r.principal
+  pub resource_choice : IsChoice s r.resource
   pub context : IsSomeAnd (context_of s env.action) (λ t. IsTrue (conforms t (Record r.context)))
 
 -- an entity's type is declared, and its attributes are those of the type
@@ -82,6 +85,12 @@ action_data a = record { attrs = []; ancestors = a.ancestors; tags = [] }
 abbrev pub IsAction : Declarations → Entry → Type 0
 IsAction s x = IsTrue (is_action_type s x.0.type_name) → (a : Action) × Contains s.actions a
     × (x ≡ (a.uid, action_data a))
+
+-- a stored entity and its ancestors have choices as ids where their types are enumerated; then the entity has no
+-- attributes, tags or ancestors, since such a type admits none
+pub record HasChoices (s : Declarations) (x : Entry) : Type 0 where
+  pub uid : IsChoice s x.0
+  pub ancestors : AllByRecursion (IsChoice s) x.1.ancestors
 
 abbrev pub IsStored : Entities → Uid → Type 0
 IsStored es u = IsSome (stored u es)
@@ -119,5 +128,6 @@ pub record IsWellFormed (s : Declarations) (env : Env) (literals : List Uid) (w 
   pub transitive : AllByRecursion (IsTransitive w.store) w.store
   pub acyclic : AllByRecursion IsAcyclic w.store
   pub actions : AllByRecursion (IsAction s) w.store
+  pub choices : AllByRecursion (HasChoices s) w.store
   pub declared_actions : AllByRecursion (λ (a : Action). IsStored w.store a.uid) s.actions
   pub closed : IsClosed literals w

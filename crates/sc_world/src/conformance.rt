@@ -8,11 +8,13 @@ ghost use Rattle.sc_schema.specs.declared.ty.Ty.{Ty as AnyTy};
 ghost use Rattle.sc_values.specs.declared.value.Value.{Value as AnyValue, out-Value};
 ghost use Rattle.sc_values.specs.declared.value.Value.TheVariants.{Record};
 ghost use Rattle.sc_values.specs.Records.{field};
+ghost use Rattle.sc_world.specs.Choices.{is_choice};
 ghost use Rattle.sc_world.specs.Conforms as of_type;
 ghost use Rattle.sc_world.specs.Conforms.{shape_of, has_shape};
 
-use sc_names::Name;
-use sc_schema::{Attributes, Presence, Ty};
+use crate::choices::is_choice;
+use sc_names::Uid;
+use sc_schema::{Attributes, EntityKind, Presence, Ty};
 use sc_values::{Rec, Set, Value, field};
 
 /// Whether a value is of a type: a record has the fields of its type, may lack those that aren't
@@ -30,7 +32,7 @@ pub fn conforms(x: &Value, ty: &Ty) -> bool
         Ty::String => is_string(x),
         Ty::Decimal => is_decimal(x),
         Ty::Ip => is_ip(x),
-        Ty::Entity(name) => is_entity_of(x, name),
+        Ty::Entity(kind) => is_entity_of(x, kind),
         Ty::Set(member) => is_set_of(member.get(), x),
         Ty::Record(attributes) => is_record_of(attributes, x),
     }
@@ -182,11 +184,19 @@ fn is_ip(x: &Value) -> bool
     matches!(x, Value::Ip(_))
 }
 
-fn is_entity_of(x: &Value, name: &Name) -> bool
-    ensures { result ≡ of_type.is_entity_of name.now (out-Value x.now) }
+fn is_entity_of(x: &Value, kind: &EntityKind) -> bool
+    ensures { result ≡ of_type.is_entity_of kind.now (out-Value x.now) }
 {
     match x {
-        Value::Entity(uid) => uid.type_name.as_str() == name.as_str(),
+        Value::Entity(uid) => is_uid_of(uid, kind),
         _ => false,
     }
+}
+
+fn is_uid_of(uid: &Uid, kind: &EntityKind) -> bool
+    ensures { result ≡ (bytes_eq uid.now.type_name kind.now.name && is_choice kind.now.choices uid.now.id) }
+{
+    let named = uid.type_name.as_str() == kind.name.as_str();
+    let chosen = is_choice(&kind.choices, &uid.id);
+    named && chosen
 }

@@ -1,16 +1,16 @@
 //! The default of each type.
-ghost use Rattle.std.specs.Prelude.{◌≡◌, ◌++◌, ℕ, List, find, flat_map, IfOk, OnOk};
+ghost use Rattle.std.specs.Prelude.{◌≡◌, ◌++◌, ℕ, List, find, flat_map, slice_get, IfOk, OnOk};
 ghost use Rattle.std.specs.Option.{option_copied};
 ghost use Rattle.std.specs.Str.{bytes_eq};
 ghost use Rattle.sc_names.specs.declared.uid.Uid.{Uid as AnyUid};
-ghost use Rattle.sc_schema.specs.Declarations.{action_uids};
+ghost use Rattle.sc_schema.specs.Declarations.{action_uids, choices_of};
 ghost use Rattle.sc_schema.specs.declared.ty.Presence.{Presence as AnyPresence};
 ghost use Rattle.sc_schema.specs.declared.ty.Ty.{Ty as AnyTy};
-ghost use Rattle.sc_world.specs.Defaults.{default_uid, default_field, default_value};
+ghost use Rattle.sc_world.specs.Defaults.{default_uid, default_field, default_value, first_entity};
 
 use sc_lists::{Seq, Text};
 use sc_names::{Name, Uid};
-use sc_schema::{Attributes, Presence, Schema, Ty, actions, is_action_type};
+use sc_schema::{Attributes, Presence, Schema, Ty, actions, choices_of, is_action_type};
 use sc_values::{Decimal, Ip, Rec, Value};
 use std::alloc::{AllocError, Global};
 
@@ -32,7 +32,7 @@ pub(crate) fn default_value(alloc: Global, s: &Schema, ty: &Ty) -> Result<Value,
             address: 0,
             prefix: 32,
         })),
-        Ty::Entity(name) => Ok(Value::Entity(default_uid(alloc, s, name)?)),
+        Ty::Entity(kind) => Ok(Value::Entity(default_uid(alloc, s, &kind.name)?)),
         Ty::Set(_) => Ok(Value::Set(Seq::new(alloc))),
         Ty::Record(attributes) => Ok(Value::Record(default_fields(alloc, s, attributes)?)),
     }
@@ -74,13 +74,43 @@ fn put_field(
     }
 }
 
-/// The default entity of a type.
+/// The default entity of a type: its least action, and where it has none its first entity.
 pub(crate) fn default_uid(alloc: Global, s: &Schema, name: &Name) -> Result<Uid, AllocError>
     ensures { IfOk result (λ u. u ≡ default_uid s.now name.now) }
 {
     match first_action(s, name) {
         Some(action) => action.try_clone(alloc),
+        None => first_entity(alloc, s, name),
+    }
+}
+
+/// The first entity of a type: of its first choice if it is enumerated, and else with no id.
+fn first_entity(alloc: Global, s: &Schema, name: &Name) -> Result<Uid, AllocError>
+    ensures { IfOk result (λ u. u ≡ first_entity name.now (choices_of s.now name.now)) }
+{
+    match first_choice(s, name) {
+        Some(id) => uid_of(alloc, name, id),
         None => Uid::nameless(alloc, name),
+    }
+}
+
+/// The entity of a type with an id.
+fn uid_of(alloc: Global, name: &Name, id: &Text) -> Result<Uid, AllocError>
+    ensures { IfOk result (λ u. u ≡ record { type_name = name.now; id = id.now }) }
+{
+    Ok(Uid {
+        type_name: name.try_clone(alloc)?,
+        id: id.try_clone(alloc)?,
+    })
+}
+
+/// The first choice of a type, if it is enumerated.
+fn first_choice<'s>(s: &'s Schema, name: &Name) -> Option<&'s Text>
+    ensures { option_copied result ≡ slice_get (choices_of s.now name.now) 0 }
+{
+    match choices_of(s, name) {
+        Some(ids) => ids.first(),
+        None => None,
     }
 }
 

@@ -5,6 +5,7 @@ mod actions;
 mod ancestors;
 mod attributes;
 mod broken;
+mod choices;
 mod conformance;
 mod default_entity;
 mod default_value;

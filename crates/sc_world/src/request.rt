@@ -6,6 +6,7 @@ ghost use Rattle.sc_world.specs.Conforms as of_type;
 ghost use Rattle.sc_world.specs.Tests.{IsEnvironmentOf};
 ghost use Rattle.sc_world.specs.WellFormed.{IsRequestOf};
 
+use crate::choices::is_choice_of_type;
 use crate::conformance::record_conforms;
 use crate::uids::{is_named, is_same};
 use crate::world::Request;
@@ -13,14 +14,18 @@ use sc_names::Uid;
 use sc_schema::{Env, Schema, context_of};
 use sc_values::Rec;
 
-/// Whether a request has the environment's types and action, and a context of the action's type.
+/// Whether a request has the environment's types and action, a principal and a resource that are choices where their
+/// types are enumerated, and a context of the action's type.
 pub fn is_request_of(s: &Schema, env: &Env, r: &Request) -> bool
     ensures { IsTrue result ↔ IsRequestOf s.now env.now r.now }
 {
     if !is_environment_of(r, env) {
         return false;
     }
-    is_context_of(s, &env.action, &r.context)
+    let principal = is_choice_of_type(s, &r.principal);
+    let resource = is_choice_of_type(s, &r.resource);
+    let context = is_context_of(s, &env.action, &r.context);
+    principal && resource && context
 }
 
 fn is_environment_of(r: &Request, env: &Env) -> bool

@@ -18,7 +18,8 @@ use sc_schema::{Env, Schema};
 /// Whether a world is well-formed for an environment of a schema and the uids that policies write.
 /// The request is of the environment. Attributes and tags of stored entities conform to their
 /// types. Ancestors are of allowed types, and they are transitive and acyclic. The stored actions
-/// are exactly the declared ones. Each uid that is named is stored.
+/// are exactly the declared ones. Entities of enumerated types have choices as ids. Each uid that is
+/// named is stored.
 pub fn well_formed(s: &Schema, env: &Env, w: &World, lits: &Lits) -> bool
     requires { Contains (environments s.now) env.now }
     ensures { IsTrue result ↔ IsWellFormed s.now env.now lits.now w.now }

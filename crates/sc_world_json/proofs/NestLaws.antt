@@ -6,6 +6,7 @@ use Rattle.std.proofs.lemmas.Slice.Eq.{bytes_eq-Decides}
 use Rattle.std.specs.List.{AllByRecursion, list_all}
 use Rattle.serde_json.specs.Data.{depth, items_depth, members_depth}
 use Rattle.serde_json.specs.View.{items_of}
+use Rattle.sc_schema.specs.declared.ty.EntityKind.{EntityKind}
 use Rattle.sc_schema.specs.declared.ty.Presence.{Presence}
 use Rattle.sc_schema.specs.declared.ty.Ty.{Ty, Ty-F, roll-Ty, map-Ty, ind-Ty, fold-roll-Ty}
 use Rattle.sc_schema.specs.declared.ty.Ty.TheOpen as t
@@ -61,9 +62,9 @@ ip-nests : LayersNest is_ip 2
 ip-nests (v.Ip ip) p h = omega arith
 ip-nests _ p h = absurd (false≢true h)
 
-entity-nests : (name : List ℕ) → LayersNest (is_entity_of name) 2
-entity-nests name (v.Entity u) p h = omega arith
-entity-nests name _ p h = absurd (false≢true h)
+entity-nests : (kind : EntityKind) → LayersNest (is_entity_of kind) 2
+entity-nests kind (v.Entity u) p h = omega arith
+entity-nests kind _ p h = absurd (false≢true h)
 
 -- ---- sets
 
@@ -139,7 +140,7 @@ step-nests t.Long = from_layers is_long 2 long-nests
 step-nests t.String = from_layers is_string 2 string-nests
 step-nests t.Decimal = from_layers is_decimal 2 decimal-nests
 step-nests t.Ip = from_layers is_ip 2 ip-nests
-step-nests (t.Entity name) = from_layers (is_entity_of name) 2 (entity-nests name)
+step-nests (t.Entity kind) = from_layers (is_entity_of kind) 2 (entity-nests kind)
 step-nests (t.Set k) = from_layers (is_set_of (conforms k.0)) (levels k.0 + 1 + 1) (set-nests (conforms k.0) (levels k.0 + 1) k.1)
 step-nests (t.Record ks) = from_layers (is_record_of (tests ks)) (most ks + 1 + 1) (record-nests ks)
 

@@ -14,6 +14,7 @@ use Rattle.sc_ip.specs.declared.ip.Ip.{Ip}
 use Rattle.sc_ip.specs.IpText.{IsIpText, ip_text}
 use Rattle.sc_ip.proofs.PrefixLaws.{ip_only}
 use Rattle.sc_ip.proofs.WrittenLaws.{text_reads as ip_text_reads}
+use Rattle.sc_schema.specs.declared.ty.EntityKind.{EntityKind}
 use Rattle.sc_schema.specs.declared.ty.Presence.{Presence}
 use Rattle.sc_schema.specs.declared.ty.Ty.{Ty, Ty-F, roll-Ty, map-Ty, ind-Ty, fold-roll-Ty}
 use Rattle.sc_schema.specs.declared.ty.Ty.TheOpen as t
@@ -105,10 +106,10 @@ ip-same (v.Ip m) (v.Ip n) p q h k e =
 ip-same (v.Ip m) _ p q h k e = absurd (false≢true k)
 ip-same _ b p q h k e = absurd (false≢true h)
 
-entity-same : (name : List ℕ) → LayersDetermined (is_entity_of name)
-entity-same name (v.Entity u) (v.Entity w) p q h k e = let s : uid_data u ≡ uid_data w = cc in ap v.Entity (uid-same u w s)
-entity-same name (v.Entity u) _ p q h k e = absurd (false≢true k)
-entity-same name _ b p q h k e = absurd (false≢true h)
+entity-same : (kind : EntityKind) → LayersDetermined (is_entity_of kind)
+entity-same kind (v.Entity u) (v.Entity w) p q h k e = let s : uid_data u ≡ uid_data w = cc in ap v.Entity (uid-same u w s)
+entity-same kind (v.Entity u) _ p q h k e = absurd (false≢true k)
+entity-same kind _ b p q h k e = absurd (false≢true h)
 
 -- ---- sets
 
@@ -199,7 +200,7 @@ step-same t.Long = from_layers is_long long-same
 step-same t.String = from_layers is_string string-same
 step-same t.Decimal = from_layers is_decimal decimal-same
 step-same t.Ip = from_layers is_ip ip-same
-step-same (t.Entity name) = from_layers (is_entity_of name) (entity-same name)
+step-same (t.Entity kind) = from_layers (is_entity_of kind) (entity-same kind)
 step-same (t.Set k) = from_layers (is_set_of (conforms k.0)) (set-same (conforms k.0) k.1)
 step-same (t.Record ks) = from_layers (is_record_of (tests ks)) (record-same ks)
 

@@ -173,7 +173,7 @@ fn begins_with(alloc: Global, schema: &Schema, text: &str) -> bool {
 }
 
 /// The same of the schema that a text spells.
-fn begins_by(alloc: Global, schema: &str, text: &str) -> bool {
+pub(crate) fn begins_by(alloc: Global, schema: &str, text: &str) -> bool {
     match read_schema(alloc, schema.as_bytes()) {
         Ok(schema) => begins_with(alloc, &schema, text),
         Err(_) => false,

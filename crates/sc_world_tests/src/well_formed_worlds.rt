@@ -42,7 +42,13 @@ fn is_told_of_break(found: &Break, told: Told) -> bool {
     }
 }
 
-fn is_told_of(alloc: Global, schema: &Schema, world: &World, literals: &Lits, told: Told) -> bool {
+pub(crate) fn is_told_of(
+    alloc: Global,
+    schema: &Schema,
+    world: &World,
+    literals: &Lits,
+    told: Told,
+) -> bool {
     match first_break(alloc, schema, world, literals) {
         Ok(Some(found)) => is_told_of_break(&found, told),
         Ok(None) => matches!(told, Told::Nothing),

@@ -3,12 +3,12 @@ use Rattle.std.proofs.Common.{◌≡◌, ℕ, false, Option, Some, None, refl, a
 use Rattle.sc_clauses.specs.Assignments.{Assignment}
 use Rattle.sc_terms.specs.Trees.{Tree}
 use Rattle.sc_footprint.specs.Problems.{Posed, term_of}
-use Rattle.sc_rule_instances.specs.declared.rule.EntityRule.TheVariants.{En2, En6, En7, En8}
+use Rattle.sc_rule_instances.specs.declared.rule.EntityRule.TheVariants.{En2, En6, En7}
 use Rattle.sc_rule_instances.specs.Instances.{on_one, on_two, on_three}
 use Rattle.sc_rule_instances.specs.Known.{is_falsified}
 use Rattle.sc_rule_laws.specs.Signed.{Said}
-use Rattle.sc_rule_laws.specs.Entities.{en2, en6, en7, en8}
-use Rattle.th_entities.specs.Free.{IsFree}
+use Rattle.sc_rule_laws.specs.Entities.{en2, en6, en7, en8, eq9}
+use Rattle.th_entities.specs.Free.{IsFree, IsChosenFree}
 
 pub free_none : (p : Posed) (m : Assignment) (said : Said) → said ≡ None → is_falsified p m said ≡ false
 unfolding is_falsified
@@ -43,5 +43,5 @@ module _ (p : Posed) (m : Assignment) where
   pub past7x : (s x : ℕ) → term_of p x ≡ None → IsFree p m (En7 s x)
   past7x s x gone = free_none p m _ (ap (λ (o : Option Tree). on_two (term_of p s) o (en7 p.schema)) gone ∙ two_second (term_of p s) (en7 p.schema))
 
-  pub past8 : (x : ℕ) → term_of p x ≡ None → IsFree p m (En8 x)
-  past8 x gone = free_none p m _ (ap (λ (o : Option Tree). on_one o (en8 p.schema)) gone)
+  pub past_chosen : (x : ℕ) → term_of p x ≡ None → IsChosenFree p m x
+  past_chosen x gone = (free_none p m _ (ap (λ (o : Option Tree). on_one o (en8 p.schema)) gone), free_none p m _ (ap (λ (o : Option Tree). on_one o (eq9 p.schema)) gone))

@@ -7,7 +7,7 @@ use Rattle.sc_sorts.specs.declared.node.UnaryOp.TheVariants as unary
 use Rattle.sc_terms.specs.Trees.{Tree, one}
 use Rattle.sc_footprint.specs.Problems.{Posed}
 use Rattle.sc_rule_instances.specs.declared.rule.EntityRule.{EntityRule}
-use Rattle.sc_rule_instances.specs.declared.rule.EntityRule.TheVariants.{En2, En4, En5}
+use Rattle.sc_rule_instances.specs.declared.rule.EntityRule.TheVariants.{En2, En4, En5, En8, Eq9}
 use Rattle.sc_rule_instances.specs.Clauses.{is_asked, literal_for}
 use Rattle.sc_rule_instances.specs.Instances.{entity_said}
 use Rattle.sc_rule_instances.specs.Known.{is_falsified}
@@ -16,6 +16,10 @@ use Rattle.th_entities.specs.declared.memberships.Membership.{Membership}
 
 abbrev pub IsFree : Posed → Assignment → EntityRule → Type 0
 IsFree p m rule = is_falsified p m (entity_said p rule) ≡ false
+
+-- EN8 and EQ9
+abbrev pub IsChosenFree : Posed → Assignment → ℕ → Type 0
+IsChosenFree p m x = IsFree p m (En8 x) × IsFree p m (Eq9 x)
 
 -- it holds of the first so many numbers, from 1 on
 unfoldable pub AreFirst : (ℕ → Type 0) → ℕ → Type 0

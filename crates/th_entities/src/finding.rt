@@ -3,10 +3,10 @@
 //! that the assignment says are true are.
 ghost use Rattle.std.specs.Prelude.{◌≡◌, true, ℕ, IfSome, IfNone};
 ghost use Rattle.std.specs.List.{AllByRecursion};
-ghost use Rattle.sc_rule_instances.specs.declared.rule.EntityRule.TheVariants.{En2, En4, En5, En6, En7, En8};
+ghost use Rattle.sc_rule_instances.specs.declared.rule.EntityRule.TheVariants.{En2, En4, En5, En6, En7};
 ghost use Rattle.sc_rule_instances.specs.Instances.{entity_said};
 ghost use Rattle.sc_rule_instances.specs.Known.{NoneFalsified, is_falsified as falsified_of};
-ghost use Rattle.th_entities.specs.Free.{IsFree, IsMovedFree, IsOwnFree, IsLifted, AreLifted, IsUnder};
+ghost use Rattle.th_entities.specs.Free.{IsFree, IsChosenFree, IsMovedFree, IsOwnFree, IsLifted, AreLifted, IsUnder};
 ghost use Rattle.th_entities.specs.Memberships.{AreMemberships, AreOf, IsHeld};
 ghost use Rattle.th_entities.specs.Places.{ArePlaces};
 
@@ -332,13 +332,24 @@ fn sixth_rule(problem: &Problem<'_>, m: &Assignment) -> Option<EntityRule>
     None
 }
 
-/// An instance of EN8.
-fn eighth_rule(problem: &Problem<'_>, m: &Assignment) -> Option<EntityRule>
+/// An instance for a term of EN8, or of EQ9.
+fn chosen_one(problem: &Problem<'_>, m: &Assignment, x: u64) -> Option<EntityRule>
     ensures found { IfSome result (λ rule. falsified_of problem.now m.now (entity_said problem.now rule) ≡ true) }
-    ensures none { IfNone result ((x : ℕ) → IsFree problem.now m.now (En8 x)) }
+    ensures none { IfNone result (IsChosenFree problem.now m.now x) }
+{
+    if let Some(rule) = if_falsified(problem, m, EntityRule::En8(x)) {
+        return Some(rule);
+    }
+    if_falsified(problem, m, EntityRule::Eq9(x))
+}
+
+/// An instance of EN8 or of EQ9.
+fn chosen_rules(problem: &Problem<'_>, m: &Assignment) -> Option<EntityRule>
+    ensures found { IfSome result (λ rule. falsified_of problem.now m.now (entity_said problem.now rule) ≡ true) }
+    ensures none { IfNone result ((x : ℕ) → IsChosenFree problem.now m.now x) }
 {
     for n in 0..problem.closed_count() {
-        if let Some(rule) = if_falsified(problem, m, EntityRule::En8(n + 1)) {
+        if let Some(rule) = chosen_one(problem, m, n + 1) {
             return Some(rule);
         }
     }
@@ -375,7 +386,7 @@ pub(crate) fn falsified_rule(
     if let Some(rule) = seventh_rule(problem, m) {
         return Some(rule);
     }
-    if let Some(rule) = eighth_rule(problem, m) {
+    if let Some(rule) = chosen_rules(problem, m) {
         return Some(rule);
     }
     None

@@ -1,4 +1,4 @@
-//! The theory of entities: EN1 to EN8, on what is stored of entities that are equal, on ancestors,
+//! The theory of entities: EN1 to EN8 and EQ9, on what is stored of entities that are equal, on ancestors,
 //! tags and declared actions.
 #![tactic(auto)]
 

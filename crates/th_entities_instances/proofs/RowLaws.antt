@@ -1,5 +1,5 @@
 -- Rows of rules: what each says whatever its terms are, how many literals that has, and each of these.
-use Rattle.std.proofs.Common.{◌≡◌, ◌≢◌, ◌<◌, ◌==◌, ℕ, zero, suc, Bool, true, false, not, List, [], ◌∷◌, map, length, slice_get, get_or, Option, Some, None, IsSomeAnd, if◌then◌else◌, refl, sym, ap, ◌∙◌, subst, arith}
+use Rattle.std.proofs.Common.{◌≡◌, ◌≢◌, ◌<◌, ◌==◌, ◌&&◌, ℕ, zero, suc, Bool, true, false, not, List, [], ◌∷◌, map, length, slice_get, get_or, Option, Some, None, IsSomeAnd, if◌then◌else◌, refl, sym, ap, ◌∙◌, subst, arith}
 use Rattle.std.proofs.lemmas.List.{length-map}
 use Rattle.sc_names.specs.declared.uid.Uid.{Uid}
 use Rattle.sc_clauses.specs.declared.lit.Lit.{Lit}
@@ -16,7 +16,7 @@ use Rattle.sc_footprint.specs.Problems.{Posed, literal_in}
 use Rattle.sc_rule_instances.specs.Clauses.{literal_for, clause_for, said_clause}
 use Rattle.sc_rule_instances.specs.Saying.{count_of, literal_of}
 use Rattle.sc_rule_laws.specs.Signed.{Signed, Said, so, unless, given}
-use Rattle.sc_rule_laws.specs.Entities.{en2, en4, en5, en6, en7, en7_by, en8}
+use Rattle.sc_rule_laws.specs.Entities.{en2, en4, en5, en6, en7, en7_by, chosen_of}
 use Rattle.sc_rule_laws.specs.Terms.{above, choices_in, entity, keys, member}
 use Rattle.th_entities_instances.specs.Rows.{are_ancestors_of, are_same_sets, above_name, declared_above, is_tag, moved, owner, tag_entity, tag_key}
 
@@ -132,19 +132,21 @@ module _ (p : Posed) where
   chosen_by d x us true k l h f = map_at d x us k l f (omega (arith, h, length-map us (λ (u : Uid). so (equal_term x (entity d u)))))
   chosen_by d x us false k l h f = absurd h
 
-  pub chosen_literal : (d : Declarations) (x : Tree) (k : ℕ) (l : Lit) → IsSomeAnd (count_of (en8 d x)) (λ n. k < n) → ((u : Uid) → slice_get (choices_in x) k ≡ Some u → l ≡ literal_in p (equal_term x (entity d u)))
-      → l ≡ literal_of p (en8 d x) k
-  chosen_literal d x = chosen_by d x (choices_in x) (not (length (choices_in x) == 0))
+  pub chosen_literal : (d : Declarations) (x : Tree) (asked : Bool) (k : ℕ) (l : Lit) → IsSomeAnd (count_of (chosen_of d x asked (choices_in x))) (λ n. k < n)
+      → ((u : Uid) → slice_get (choices_in x) k ≡ Some u → l ≡ literal_in p (equal_term x (entity d u))) → l ≡ literal_of p (chosen_of d x asked (choices_in x)) k
+  chosen_literal d x asked = chosen_by d x (choices_in x) (asked && not (length (choices_in x) == 0))
 
-pub chosen_count : (d : Declarations) (x : Tree) (us : List Uid) (n : Option ℕ) → us ≡ choices_in x → n ≡ (if not (length us == 0) then Some (length us) else None) → n ≡ count_of (en8 d x)
-chosen_count d x us n e f =
-    count_said (en8 d x) (not (length (choices_in x) == 0)) (map (λ (u : Uid). so (equal_term x (entity d u))) (choices_in x)) n refl
-    (f ∙ ap (λ (vs : List Uid). if not (length vs == 0) then Some (length vs) else None) e
-    ∙ ap (λ (k : ℕ). if not (length (choices_in x) == 0) then Some k else None) (sym (length-map (choices_in x) (λ (u : Uid). so (equal_term x (entity d u))))))
+pub chosen_count : (d : Declarations) (x : Tree) (asked : Bool) (us : List Uid) (n : Option ℕ) → us ≡ choices_in x → n ≡ (if asked && not (length us == 0) then Some (length us) else None)
+    → n ≡ count_of (chosen_of d x asked (choices_in x))
+chosen_count d x asked us n e f =
+    let test = asked && not (length (choices_in x) == 0) in
+    count_said (chosen_of d x asked (choices_in x)) test (map (λ (u : Uid). so (equal_term x (entity d u))) (choices_in x)) n refl
+    (f ∙ ap (λ (vs : List Uid). if asked && not (length vs == 0) then Some (length vs) else None) e
+    ∙ ap (λ (k : ℕ). if test then Some k else None) (sym (length-map (choices_in x) (λ (u : Uid). so (equal_term x (entity d u))))))
 
 -- a place of it is one of the choices
-pub chosen_place : (d : Declarations) (x : Tree) (us : List Uid) (k : ℕ) → us ≡ choices_in x → IsSomeAnd (count_of (en8 d x)) (λ n. k < n) → k < length us
-chosen_place d x us k e h = subst (λ (vs : List Uid). k < length vs) (sym e) (by (not (length (choices_in x) == 0)) h)
+pub chosen_place : (d : Declarations) (x : Tree) (asked : Bool) (us : List Uid) (k : ℕ) → us ≡ choices_in x → IsSomeAnd (count_of (chosen_of d x asked (choices_in x))) (λ n. k < n) → k < length us
+chosen_place d x asked us k e h = subst (λ (vs : List Uid). k < length vs) (sym e) (by (asked && not (length (choices_in x) == 0)) h)
   where
     by : (test : Bool) → IsSomeAnd (count_of (given test (map (λ (u : Uid). so (equal_term x (entity d u))) (choices_in x)))) (λ n. k < n) → k < length (choices_in x)
     by true z = omega (arith, z, length-map (choices_in x) (λ (u : Uid). so (equal_term x (entity d u))))

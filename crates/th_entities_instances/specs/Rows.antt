@@ -20,7 +20,7 @@ use Rattle.sc_terms.specs.Tables.{tree}
 use Rattle.sc_terms.specs.Order.{tree_eq}
 use Rattle.sc_footprint.specs.Problems.{Posed}
 use Rattle.sc_rule_instances.specs.Given.{IsClosed, term_at}
-use Rattle.sc_rule_laws.specs.Entities.{en2, en4, en5, en6, en7, en8, same_sets}
+use Rattle.sc_rule_laws.specs.Entities.{en2, en4, en5, en6, en7, en8, eq9, same_sets}
 use Rattle.sc_rule_laws.specs.Signed.{Said}
 use Rattle.sc_rule_laws.specs.Terms.{above}
 use Rattle.th_entities_instances.specs.Alike.{IsAlikeIn, alike_parts}
@@ -29,7 +29,7 @@ use Rattle.th_entities_instances.specs.declared.alike.Alike.{Alike}
 use Rattle.th_entities_instances.specs.declared.places.Pair.{Pair}
 use Rattle.th_entities_instances.specs.declared.places.TagPairs.{TagPairs}
 use Rattle.th_entities_instances.specs.declared.row.Row.{Row}
-use Rattle.th_entities_instances.specs.declared.row.Row.TheVariants.{Attributes, Sets, Tags, Own, Through, Lacking, Declared, Chosen}
+use Rattle.th_entities_instances.specs.declared.row.Row.TheVariants.{Attributes, Sets, Tags, Own, Through, Lacking, Declared, Acting, Enumerated}
 
 -- ---- instances
 
@@ -49,7 +49,8 @@ row_said p (Own e) = en4 (term_at p e)
 row_said p (Through e f x u) = en5 (term_at p e) (term_at p f) (term_at p x) (term_at p u)
 row_said p (Lacking a) = en6 (term_at p a)
 row_said p (Declared s x) = en7 p.schema (term_at p s) (term_at p x)
-row_said p (Chosen x) = en8 p.schema (term_at p x)
+row_said p (Acting x) = en8 p.schema (term_at p x)
+row_said p (Enumerated x) = eq9 p.schema (term_at p x)
 
 abbrev pub AreClosed : Posed → Row → Type 0
 AreClosed p (Attributes q a) = IsPairIn p q × IsAlikeIn p a
@@ -59,7 +60,8 @@ AreClosed p (Own e) = IsClosed p e
 AreClosed p (Through e f x u) = IsClosed p e × IsClosed p f × IsClosed p x × IsClosed p u
 AreClosed p (Lacking a) = IsClosed p a
 AreClosed p (Declared s x) = IsClosed p s × IsClosed p x
-AreClosed p (Chosen x) = IsClosed p x
+AreClosed p (Acting x) = IsClosed p x
+AreClosed p (Enumerated x) = IsClosed p x
 
 -- what an instance says is what a row of closed terms says, and nothing where there is none
 pub record IsRow (p : Posed) (said : Said) (row : Row) : Type 0 where

@@ -1,9 +1,9 @@
-//! EN7 and EN8: declared actions, and the literals of their equations with a term.
+//! EN7, EN8 and EQ9: declared actions, choices, and the literals of their equations with a term.
 ghost use Rattle.std.specs.Prelude.{◌≡◌, ◌<◌, ◌^◌, ◌∷◌, [], None, IfNone, IfSome, if◌then◌else◌, length, option_map, slice_get};
 ghost use Rattle.std.specs.Option.{option_copied};
 ghost use Rattle.std.specs.Str.{bytes_eq};
 ghost use Rattle.sc_footprint.specs.Problems.{literal_in};
-ghost use Rattle.sc_rule_laws.specs.Entities.{is_literal_of as one_of_test, is_uid_in};
+ghost use Rattle.sc_rule_laws.specs.Entities.{is_acting as acting_test, is_literal_of as one_of_test, is_uid_in};
 ghost use Rattle.sc_rule_laws.specs.Terms.{choices_in, entity as entity_term};
 ghost use Rattle.sc_sorts.specs.Entities.{of_type_name};
 ghost use Rattle.sc_terms.specs.Tables.{tree};
@@ -14,7 +14,7 @@ use sc_clauses::Lit;
 use sc_footprint::{Problem, problem_laws};
 use sc_names::Uid;
 use sc_rule_instances::{FALSE, NOWHERE, TRUE, entity, equal, negated_if};
-use sc_schema::action_ancestors;
+use sc_schema::{action_ancestors, is_action_type};
 use sc_sorts::{Leaf, Literal, Node, Sort, UnaryOp};
 
 // ---- equations with an entity
@@ -70,6 +70,17 @@ pub(crate) fn choices_of<'a>(problem: &'a Problem<'_>, x: u64) -> &'a [Uid]
     match problem.terms().sort(x) {
         Sort::Entity(_, choices) => choices.as_slice(),
         _ => &[],
+    }
+}
+
+/// Whether a term's type is one of actions.
+pub(crate) fn is_acting(problem: &Problem<'_>, x: u64) -> bool
+    requires { x < length problem.now.nodes }
+    ensures { result ≡ acting_test problem.now.schema (tree problem.now.nodes x) }
+{
+    match problem.terms().sort(x) {
+        Sort::Entity(name, _) => is_action_type(problem.schema(), name),
+        _ => false,
     }
 }
 

@@ -15,5 +15,6 @@ pub(crate) enum Row {
     Through(Closed, Closed, Closed, Closed),
     Lacking(Closed),
     Declared(Closed, Closed),
-    Chosen(Closed),
+    Acting(Closed),
+    Enumerated(Closed),
 }

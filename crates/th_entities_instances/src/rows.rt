@@ -2,7 +2,8 @@
 ghost use Rattle.std.specs.Prelude.{◌≡◌, ◌<◌, ◌+◌, ◌^◌, ◌==◌, length, Some, None, IsSomeAnd, true, if◌then◌else◌};
 ghost use Rattle.sc_rule_instances.specs.Saying.{count_of, literal_of};
 ghost use Rattle.sc_footprint.specs.Problems.{literal_in};
-ghost use Rattle.sc_rule_laws.specs.Entities.{en2, en4, en5, en6, en7, en8};
+ghost use Rattle.sc_rule_laws.specs.Entities.{en2, en4, en5, en6, en7, chosen_of, en8, eq9};
+ghost use Rattle.sc_rule_laws.specs.Terms.{choices_in};
 ghost use Rattle.sc_terms.specs.Tables.{tree};
 ghost use Rattle.sc_terms.specs.TreeSorts.{tree_sort};
 ghost use Rattle.sc_sorts.specs.declared.sort.Sort.{out-Sort};
@@ -14,8 +15,8 @@ ghost use Rattle.th_entities_instances.specs.Rows.{AreClosed, attributes_said, i
 
 use crate::alike::{Alike, alike_literal, half_count};
 use crate::declared::{
-    above_name, choices_of, count_of_type, declared_above, entity_equal, is_one_of, of_type_at,
-    uid_at,
+    above_name, choices_of, count_of_type, declared_above, entity_equal, is_acting, is_one_of,
+    of_type_at, uid_at,
 };
 use crate::places::{Pair, TagPairs};
 use crate::row::Row;
@@ -239,26 +240,61 @@ fn declared_literal(problem: &Problem<'_>, s: Closed, x: Closed, place: u128) ->
     entity_equal(problem, x.term, uid)
 }
 
-// ---- EN8
+// ---- EN8 and EQ9
 
-fn chosen_count(problem: &Problem<'_>, x: Closed) -> Option<u128>
+fn chosen_count(problem: &Problem<'_>, x: Closed, asked: bool) -> Option<u128>
     requires { IsClosed problem.now x }
-    ensures { result ≡ count_of (en8 problem.now.schema (term_at problem.now x)) }
+    ensures { result ≡ count_of (chosen_of problem.now.schema (term_at problem.now x) asked
+        (choices_in (term_at problem.now x))) }
 {
     let uids = choices_of(problem, x.term);
-    counted(!uids.is_empty(), uids.len() as u128)
+    let some = !uids.is_empty();
+    counted(asked && some, uids.len() as u128)
 }
 
-fn chosen_literal(problem: &Problem<'_>, x: Closed, place: u128) -> Lit
+fn chosen_literal(problem: &Problem<'_>, x: Closed, asked: bool, place: u128) -> Lit
     requires x { IsClosed problem.now x }
-    requires place { IsSomeAnd (count_of (en8 problem.now.schema (term_at problem.now x))) (λ n. place < n) }
-    ensures { result ≡ literal_of problem.now (en8 problem.now.schema (term_at problem.now x)) place }
+    requires place { IsSomeAnd (count_of (chosen_of problem.now.schema (term_at problem.now x) asked
+        (choices_in (term_at problem.now x)))) (λ n. place < n) }
+    ensures { result ≡ literal_of problem.now (chosen_of problem.now.schema (term_at problem.now x) asked
+        (choices_in (term_at problem.now x))) place }
 {
+    let _ = asked;
     let uids = choices_of(problem, x.term);
     let Some(uid) = uid_at(uids, place) else {
         return NOWHERE;
     };
     entity_equal(problem, x.term, uid)
+}
+
+fn acting_count(problem: &Problem<'_>, x: Closed) -> Option<u128>
+    requires { IsClosed problem.now x }
+    ensures { result ≡ count_of (en8 problem.now.schema (term_at problem.now x)) }
+{
+    chosen_count(problem, x, is_acting(problem, x.term))
+}
+
+fn acting_literal(problem: &Problem<'_>, x: Closed, place: u128) -> Lit
+    requires x { IsClosed problem.now x }
+    requires place { IsSomeAnd (count_of (en8 problem.now.schema (term_at problem.now x))) (λ n. place < n) }
+    ensures { result ≡ literal_of problem.now (en8 problem.now.schema (term_at problem.now x)) place }
+{
+    chosen_literal(problem, x, is_acting(problem, x.term), place)
+}
+
+fn enumerated_count(problem: &Problem<'_>, x: Closed) -> Option<u128>
+    requires { IsClosed problem.now x }
+    ensures { result ≡ count_of (eq9 problem.now.schema (term_at problem.now x)) }
+{
+    chosen_count(problem, x, !is_acting(problem, x.term))
+}
+
+fn enumerated_literal(problem: &Problem<'_>, x: Closed, place: u128) -> Lit
+    requires x { IsClosed problem.now x }
+    requires place { IsSomeAnd (count_of (eq9 problem.now.schema (term_at problem.now x))) (λ n. place < n) }
+    ensures { result ≡ literal_of problem.now (eq9 problem.now.schema (term_at problem.now x)) place }
+{
+    chosen_literal(problem, x, !is_acting(problem, x.term), place)
 }
 
 // ---- all rules
@@ -277,7 +313,8 @@ pub(crate) fn count(problem: &Problem<'_>, row: Row) -> Option<u128>
         Row::Through(e, f, x, u) => through_count(problem, e, f, x, u),
         Row::Lacking(a) => lacking_count(problem, a),
         Row::Declared(s, x) => declared_count(problem, s, x),
-        Row::Chosen(x) => chosen_count(problem, x),
+        Row::Acting(x) => acting_count(problem, x),
+        Row::Enumerated(x) => enumerated_count(problem, x),
     }
 }
 
@@ -295,6 +332,7 @@ pub(crate) fn literal(problem: &Problem<'_>, row: Row, place: u128) -> Lit
         Row::Through(e, f, x, u) => through_literal(problem, e, f, x, u, place),
         Row::Lacking(a) => lacking_literal(problem, a, place),
         Row::Declared(s, x) => declared_literal(problem, s, x, place),
-        Row::Chosen(x) => chosen_literal(problem, x, place),
+        Row::Acting(x) => acting_literal(problem, x, place),
+        Row::Enumerated(x) => enumerated_literal(problem, x, place),
     }
 }

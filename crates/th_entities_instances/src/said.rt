@@ -1,6 +1,6 @@
 //! What an instance says.
 ghost use Rattle.std.specs.Prelude.{◌≡◌, ◌<◌, IsSomeAnd};
-ghost use Rattle.sc_rule_instances.specs.declared.rule.EntityRule.TheVariants.{En1, En2, En3, En4, En5, En6, En7, En8};
+ghost use Rattle.sc_rule_instances.specs.declared.rule.EntityRule.TheVariants.{En1, En2, En3, En4, En5, En6, En7, En8, Eq9};
 ghost use Rattle.sc_rule_instances.specs.Instances.{entity_said};
 ghost use Rattle.sc_rule_instances.specs.Saying.{count_of, literal_of};
 ghost use Rattle.th_entities_instances.specs.Rows.{IsRowIf};
@@ -103,13 +103,22 @@ fn declared(problem: &Problem<'_>, s: u64, x: u64) -> Option<Row>
     Some(Row::Declared(s, x))
 }
 
-fn chosen(problem: &Problem<'_>, x: u64) -> Option<Row>
+fn acting(problem: &Problem<'_>, x: u64) -> Option<Row>
     ensures { IsRowIf problem.now (entity_said problem.now (En8 x)) result }
 {
     let Some(x) = closed_of(problem, x) else {
         return None;
     };
-    Some(Row::Chosen(x))
+    Some(Row::Acting(x))
+}
+
+fn enumerated(problem: &Problem<'_>, x: u64) -> Option<Row>
+    ensures { IsRowIf problem.now (entity_said problem.now (Eq9 x)) result }
+{
+    let Some(x) = closed_of(problem, x) else {
+        return None;
+    };
+    Some(Row::Enumerated(x))
 }
 
 /// An instance by its closed terms. None exactly where a number is that of none.
@@ -124,7 +133,8 @@ fn row(problem: &Problem<'_>, rule: EntityRule) -> Option<Row>
         EntityRule::En5(e, f, x, u) => through(problem, e, f, x, u),
         EntityRule::En6(a) => lacking(problem, a),
         EntityRule::En7(s, x) => declared(problem, s, x),
-        EntityRule::En8(x) => chosen(problem, x),
+        EntityRule::En8(x) => acting(problem, x),
+        EntityRule::Eq9(x) => enumerated(problem, x),
     }
 }
 

@@ -1,5 +1,5 @@
 //! Goals on what is stored of two users, the principal and one of the context, and on a choice of
-//! declared actions.
+//! declared actions, or of entities of an enumerated type.
 ghost use Rattle.std.specs.Prelude.{◌<◌, ◌≤◌, length, IfOk};
 
 use sc_lists::Text;
@@ -16,6 +16,10 @@ const STORED: &str =
 const DECLARED: &str =
     r#"{"":{"entityTypes":{"Doc":{},"User":{}},"actions":{"all":{},"most":{"memberOf":[{"id":"all"}]},"view":{"memberOf":[{"id":"most"}],"appliesTo":{"principalTypes":["User"],"resourceTypes":["Doc"],"context":{"type":"Record","attributes":{"flag":{"type":"Boolean"}}}}}}}}"#;
 
+/// There are three paints, and one user. The context has two paints.
+const CHOSEN: &str =
+    r#"{"":{"entityTypes":{"Doc":{},"Paint":{"enum":["red","green","blue"]},"User":{"enum":["ada"]}},"actions":{"view":{"appliesTo":{"principalTypes":["User"],"resourceTypes":["Doc"],"context":{"type":"Record","attributes":{"flag":{"type":"Boolean"},"hue":{"type":"Entity","name":"Paint"},"paint":{"type":"Entity","name":"Paint"}}}}}}}}"#;
+
 /// What is stored of a user and of its tags has values of many sorts.
 const PLACES: &str =
     r#"{"":{"entityTypes":{"User":{"shape":{"type":"Record","attributes":{"boss":{"type":"Entity","name":"User"},"home":{"type":"Record","required":false,"attributes":{"city":{"type":"String"}}},"level":{"type":"Long"},"mates":{"type":"Set","element":{"type":"Entity","name":"User"}},"name":{"type":"Record","attributes":{"last":{"type":"String"}}},"nick":{"type":"String","required":false},"vip":{"type":"Boolean"}}},"tags":{"type":"Set","element":{"type":"String"}}}},"actions":{"view":{"appliesTo":{"principalTypes":["User"],"resourceTypes":["User"],"context":{"type":"Record","attributes":{"key":{"type":"String"},"mate":{"type":"Entity","name":"User"},"other":{"type":"Entity","name":"User"},"word":{"type":"String"}}}}}}}}"#;
@@ -29,6 +33,8 @@ pub(crate) enum Asked {
     Places,
     /// Whether an action, to view if a flag is set and else all, is in all.
     Declared,
+    /// Whether a paint, one if a flag is set and else another, is the one.
+    Chosen,
 }
 
 /// The text of the schema.
@@ -37,6 +43,7 @@ pub(crate) fn schema_text(asked: Asked) -> &'static str {
         Asked::Stored => STORED,
         Asked::Places => PLACES,
         Asked::Declared => DECLARED,
+        Asked::Chosen => CHOSEN,
     }
 }
 
@@ -276,6 +283,30 @@ fn declared(place: Place<'_>, terms: &mut Terms) -> Result<u64, AllocError>
     terms.member(all, above)
 }
 
+// ---- entities of an enumerated type
+
+/// The paint of the context if a flag is set, and else its hue.
+fn paint_or_hue(place: Place<'_>, terms: &mut Terms) -> Result<u64, AllocError>
+    requires { place.context < length terms.old }
+    ensures within { IfOk result (λ n. n < length terms.new) }
+    ensures grows { length terms.old ≤ length terms.new }
+{
+    let flag = field(place, terms, "flag")?;
+    let paint = field(place, terms, "paint")?;
+    let hue = field(place, terms, "hue")?;
+    terms.choice(flag, paint, hue)
+}
+
+fn chosen(place: Place<'_>, terms: &mut Terms) -> Result<u64, AllocError>
+    requires { place.context < length terms.old }
+    ensures within { IfOk result (λ n. n < length terms.new) }
+    ensures grows { length terms.old ≤ length terms.new }
+{
+    let choice = paint_or_hue(place, terms)?;
+    let paint = field(place, terms, "paint")?;
+    terms.equal(choice, paint)
+}
+
 /// The goal.
 pub(crate) fn goal(place: Place<'_>, terms: &mut Terms, asked: Asked) -> Result<u64, AllocError>
     requires { place.context < length terms.old }
@@ -286,5 +317,6 @@ pub(crate) fn goal(place: Place<'_>, terms: &mut Terms, asked: Asked) -> Result<
         Asked::Stored => stored(place, terms),
         Asked::Places => places(place, terms),
         Asked::Declared => declared(place, terms),
+        Asked::Chosen => chosen(place, terms),
     }
 }

@@ -134,9 +134,10 @@ EN6: keys of principal
 EN6: vip of principal
 EN7: principal | resource
 EN8: true
-# entities that are no actions
+# entities that are no actions, and of no enumerated type
 EN7: ancestors of principal | resource
 EN8: principal
+EQ9: principal
 # the ancestors of another entity
 EN5: principal | resource | top | ancestors of principal
 EN5: principal | top | resource | ancestors of resource
@@ -185,6 +186,9 @@ EN7: ancestors of choice | all
 EN8: view
 EN8: all
 EN2: all | ancestors of all | ancestors of view
+# actions aren't choices of an enumerated type
+EQ9: choice
+EQ9: view
 # attributes that aren't asked for
 EN1: view | choice | 0
 # what is above is above
@@ -194,6 +198,25 @@ EN5: choice | view | view | ancestors of view
 EN7: ancestors of view
 EN7: ancestors of view | all | 0
 EN8: choice | choice";
+
+const FORGED_OF_CHOICES: &str = "# no entity, or one whose type isn't enumerated
+EQ9: true
+EQ9: flag
+EQ9: context
+EQ9: resource
+EQ9: past
+# a choice is itself
+EQ9: red
+EQ9: blue
+EQ9: ada
+# choices aren't actions
+EN8: paint
+EN8: principal
+# words too few, too many, or no numbers
+EQ9: nothing
+EQ9: paint | hue
+EQ9: paint | 0
+EQ9: +";
 
 // ---- instances
 
@@ -360,6 +383,12 @@ EN7: ancestors of most | view => not view in ancestors of most; not view = view
 # an action is one of the declared ones
 EN8: choice => choice = all; choice = most; choice = view";
 
+const RIGHT_OF_CHOICES: &str = "# an entity is one of the choices of its type, in their order
+EQ9: paint => paint = red; paint = green; paint = blue
+EQ9: hue => hue = red; hue = green; hue = blue
+EQ9: choice => choice = red; choice = green; choice = blue
+EQ9: principal => principal = ada";
+
 // ---- tests
 
 #[test]
@@ -384,6 +413,13 @@ fn refused_of_actions(rt: HostRuntime) -> Result<(), Fail> {
 }
 
 #[test]
+fn refused_of_choices(rt: HostRuntime) -> Result<(), Fail> {
+    let wrong = first_wrong(rt.alloc(), Asked::Chosen, Rows::Forged, FORGED_OF_CHOICES)?;
+    assert!(rt; wrong.is_none(), "{wrong:?}");
+    Ok(())
+}
+
+#[test]
 fn accepted(rt: HostRuntime) -> Result<(), Fail> {
     let wrong = first_wrong(rt.alloc(), Asked::Stored, Rows::Right, RIGHT)?;
     assert!(rt; wrong.is_none(), "{wrong:?}");
@@ -400,6 +436,13 @@ fn accepted_of_places(rt: HostRuntime) -> Result<(), Fail> {
 #[test]
 fn accepted_of_actions(rt: HostRuntime) -> Result<(), Fail> {
     let wrong = first_wrong(rt.alloc(), Asked::Declared, Rows::Right, RIGHT_OF_ACTIONS)?;
+    assert!(rt; wrong.is_none(), "{wrong:?}");
+    Ok(())
+}
+
+#[test]
+fn accepted_of_choices(rt: HostRuntime) -> Result<(), Fail> {
+    let wrong = first_wrong(rt.alloc(), Asked::Chosen, Rows::Right, RIGHT_OF_CHOICES)?;
     assert!(rt; wrong.is_none(), "{wrong:?}");
     Ok(())
 }

@@ -1,5 +1,5 @@
-//! Closed terms and atoms of a problem by names. An attribute of the context and a declared action have their own,
-//! `choice` is the choice of two actions, and what is stored of an entity is, as `keys of other`, of that entity. A
+//! Closed terms and atoms of a problem by names. An attribute of the context, a declared action and a choice of an
+//! enumerated type have their own, `choice` is what is chosen of two entities by a flag, and what is stored of an entity is, as `keys of other`, of that entity. A
 //! place of its attributes is `vip of other`, `city of held of home of other`, where `held` is what an option holds;
 //! what is asked of a place is `bit 3 of level of other` or `presence of home of other`.
 //!

@@ -184,6 +184,28 @@ true = true; choice = all; all in ancestors of most; all in ancestors of view; m
 # nothing is so
 true = true; not others => EN7: ancestors of view | all or EN7: ancestors of view | most or EN7: ancestors of most | all or EN8: choice";
 
+/// Truths of a few atoms on entities of enumerated types.
+const CHOICES: &str = "# an entity that is no choice
+not paint = red; not paint = green; not paint = blue => EQ9: paint
+not hue = red; not hue = green; not hue = blue => EQ9: hue
+not choice = red; not choice = green; not choice = blue => EQ9: choice
+not principal = ada => EQ9: principal
+# one of which a choice isn't known
+not paint = red; not paint = blue => nothing
+not paint = green; not paint = blue => nothing
+not paint = red; not hue = green; not choice = blue => nothing
+not paint = hue; not paint = choice; not hue = choice => nothing
+# that two choices aren't one says another theory
+paint = red; paint = green => nothing";
+
+/// Truths of all atoms on entities of enumerated types.
+const WHOLE_OF_CHOICES: &str = "# each is a choice
+true = true; principal = ada; paint = red; hue = blue; choice = blue; choice = hue; not others => nothing
+# one isn't
+true = true; principal = ada; paint = red; choice = red; choice = paint; not others => EQ9: hue
+# none is
+true = true; not others => EQ9: paint or EQ9: hue or EQ9: choice or EQ9: principal";
+
 #[test]
 fn equal_entities(rt: HostRuntime) -> Result<(), Fail> {
     let wrong = first_wrong(rt.alloc(), Asked::Stored, Rows::Told, EQUALS)?;
@@ -222,6 +244,20 @@ fn actions(rt: HostRuntime) -> Result<(), Fail> {
 #[test]
 fn all_atoms_on_actions(rt: HostRuntime) -> Result<(), Fail> {
     let wrong = first_wrong(rt.alloc(), Asked::Declared, Rows::Told, WHOLE_OF_ACTIONS)?;
+    assert!(rt; wrong.is_none(), "{wrong:?}");
+    Ok(())
+}
+
+#[test]
+fn choices(rt: HostRuntime) -> Result<(), Fail> {
+    let wrong = first_wrong(rt.alloc(), Asked::Chosen, Rows::Told, CHOICES)?;
+    assert!(rt; wrong.is_none(), "{wrong:?}");
+    Ok(())
+}
+
+#[test]
+fn all_atoms_on_choices(rt: HostRuntime) -> Result<(), Fail> {
+    let wrong = first_wrong(rt.alloc(), Asked::Chosen, Rows::Told, WHOLE_OF_CHOICES)?;
     assert!(rt; wrong.is_none(), "{wrong:?}");
     Ok(())
 }

@@ -1,7 +1,9 @@
 use Rattle.std.proofs.Common.{length, arith}
 use Rattle.sc_closure_rules.proofs.MakingLaws.{puts_nothing}
-use Rattle.sc_closure.proofs.GroupLaws.{group_at, group_later, divided_at, divided_later}
-use Rattle.sc_closure.proofs.EquationLaws.{equates_all, equates_next, equates_end}
+use Rattle.sc_candidates.proofs.DividedLaws.{divided_later}
+use Rattle.sc_candidates.proofs.EquationLaws.{equates_all}
+use Rattle.sc_closure.proofs.GroupLaws.{group_at, group_later, divided_at}
+use Rattle.sc_closure.proofs.GroupEquationLaws.{equates_next, equates_end}
 use Rattle.sc_closure.proofs.equations.equate_groups.Goals as goal
 
 pub loop-group-init : goal.loop-group-init

@@ -1,7 +1,8 @@
 use Rattle.std.proofs.Common.{take}
 use Rattle.sc_terms.specs.Tables.{tree}
 use Rattle.sc_closure.specs.declared.roles.Meeting.TheVariants.{Equation}
-use Rattle.sc_closure.specs.Following.{met_among, Equates}
+use Rattle.sc_candidates.specs.Equations.{Equates}
+use Rattle.sc_closure.specs.Following.{met_among}
 use Rattle.sc_closure.proofs.equations.equate_groups.Given as goal
 
 abbrev pub invariant-loop-group : goal.invariant-loop-group

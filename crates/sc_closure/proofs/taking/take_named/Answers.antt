@@ -18,5 +18,5 @@ meet_patterns-requires-clause-patterns_in c = rw c.as_slice.ensures (within_late
 pub returns-clause-ok : goal.returns-clause-ok
 returns-clause-ok c =
     let r = c.args.roles.now in
-    named_takes c.order_laws.ensures.total c.args.terms.now r (record { named = _; crowds = r.crowds; sets = r.sets; above = r.above; patterns = r.patterns }) c.requires.are c.args.n c.in_ok-join.ensures _ _ _ _ _ c.requires.within
+    named_takes c.order_laws.ensures.total c.args.terms.now r (record { named = _; crowds = r.crowds; kins = r.kins; sets = r.sets; above = r.above; patterns = r.patterns }) c.requires.are c.args.n c.in_ok-join.ensures _ _ _ _ _ c.requires.within
     (rw c.deref.ensures.value at c.in_ok-equate_groups.ensures.ok) (rw c.as_slice.ensures at c.in_ok-meet_patterns.ensures.ok)

@@ -8,5 +8,5 @@ meet_groups-requires-clause-groups_in c = rw c.deref.ensures.value (groups_withi
 pub returns-clause-ok : goal.returns-clause-ok
 returns-clause-ok c =
     let r = c.args.roles.now in
-    pattern_takes c.args.terms.now r (record { named = r.named; crowds = r.crowds; sets = r.sets; above = r.above; patterns = _ }) c.requires.are c.args.asking c.requires.within c.in_ok-push.ensures.ok _ _ _
+    pattern_takes c.args.terms.now r (record { named = r.named; crowds = r.crowds; kins = r.kins; sets = r.sets; above = r.above; patterns = _ }) c.requires.are c.args.asking c.requires.within c.in_ok-push.ensures.ok _ _ _
     (rw c.deref.ensures.value at c.in_ok-meet_groups.ensures.ok)

@@ -1,11 +1,13 @@
-use Rattle.std.proofs.Common.{◌≡◌, ◌∙◌, ℕ, List, Option, Some, IfOk, string_bytes, length, get_or, ap, sym, subst, arith}
-use Rattle.serde_json.specs.View.{view}
+use Rattle.std.proofs.Common.{◌≡◌, ◌∙◌, ℕ, List, Option, Some, None, IfOk, string_bytes, length, get_or, ap, sym, subst, arith, rules}
+use Rattle.serde_json.specs.View.{view, items_view}
 use Rattle.sc_schema_syntax.specs.declared.fault.SchemaFault.{SchemaFault}
+use Rattle.sc_schema_syntax.specs.declared.form.Form.{Form}
 use Rattle.sc_schema_syntax.specs.Pointers.{under}
-use Rattle.sc_schema_syntax.specs.Forms.{admits_text}
+use Rattle.sc_schema_syntax.specs.Forms.{admits_text, form_at}
 use Rattle.sc_schema_syntax.specs.Faults.{shape_fault, value_fault, member_fault}
 use Rattle.sc_json.proofs.WalkLaws.{fault_of_item, no_fault_of_item, no_items_left, fault_of_member, no_fault_of_member}
 use Rattle.sc_schema_syntax.proofs.FaultsLaws.{items_walk, members_walk}
+use Rattle.sc_schema_syntax.proofs.FormsLaws.{list_told}
 use Rattle.sc_json.proofs.ViewLaws.{view_null, view_truth, view_number, view_text}
 use Rattle.sc_schema_syntax.proofs.checking.+checking.Goals as goal
 
@@ -38,11 +40,15 @@ value_fault-returns-in-String t c =
 
 pub list_fault-returns-in-Some : goal.list_fault-returns-in-Some
 unfolding value_fault
-list_fault-returns-in-Some t c = rw (← c.in-Some.ensures) c.items_fault.ensures
+list_fault-returns-in-Some t c =
+    subst (λ (told : Option SchemaFault). IfOk c.items_fault.result (λ fault. fault ≡ told))
+    (list_told c.args.form (Some c.in-Some.each) c.args.items.now.items _ (search rules) c.in-Some.ensures) c.items_fault.ensures
 
 pub list_fault-returns-in-None : goal.list_fault-returns-in-None
 unfolding value_fault
-list_fault-returns-in-None t c = rw (← c.in-None.ensures) c.shape_fault.ensures
+list_fault-returns-in-None t c =
+    subst (λ (told : Option SchemaFault). IfOk c.shape_fault.result (λ fault. fault ≡ told))
+    (list_told c.args.form None c.args.items.now.items _ (search rules) c.in-None.ensures) c.shape_fault.ensures
 
 pub object_fault-returns-in-Some : goal.object_fault-returns-in-Some
 unfolding value_fault
@@ -58,8 +64,9 @@ items_fault-returns-in-Some t c =
     let all = c.deref-item-items.ensures.value in
     let x = c.item-item.result in
     let here = subst (λ vs. x ≡ get_or vs n x) all c.item-item.is in
+    let told = sym c.in-Some.is ∙ (c.in_ok-fault.ensures ∙ ap (λ (form : Form). value_fault form (view x)) c.form_at-form.ensures) in
     ap Some c.in_ok-under_item.ensures
-    ∙ fault_of_item (items_walk c.args.form) c.args.items.now.items n x c.in-Some.fault here (omega (arith, ap length all)) c.loop-number.invariant (sym c.in-Some.is ∙ c.in_ok-fault.ensures)
+    ∙ fault_of_item (items_walk (form_at c.args.each (items_view c.args.items.now.items))) c.args.items.now.items n x c.in-Some.fault here (omega (arith, ap length all)) c.loop-number.invariant told
 
 pub items_fault-loop-number-preserved : goal.items_fault-loop-number-preserved
 items_fault-loop-number-preserved t c =
@@ -67,12 +74,13 @@ items_fault-loop-number-preserved t c =
     let all = c.deref-item-items.ensures.value in
     let x = c.item-item.result in
     let here = subst (λ vs. x ≡ get_or vs n x) all c.item-item.is in
-    no_fault_of_item (items_walk c.args.form) c.args.items.now.items n x here (omega (arith, ap length all)) c.loop-number.invariant (sym c.in_default.is ∙ c.in_ok-fault.ensures)
+    let told = sym c.in_default.is ∙ (c.in_ok-fault.ensures ∙ ap (λ (form : Form). value_fault form (view x)) c.form_at-form.ensures) in
+    no_fault_of_item (items_walk (form_at c.args.each (items_view c.args.items.now.items))) c.args.items.now.items n x here (omega (arith, ap length all)) c.loop-number.invariant told
 
 pub items_fault-returns : goal.items_fault-returns
 items_fault-returns t c =
     let all = c.deref-item-items.ensures.value in
-    no_items_left (items_walk c.args.form) c.args.items.now.items c.loop-number.number (omega (arith, ap length all)) c.loop-number.invariant
+    no_items_left (items_walk (form_at c.args.each (items_view c.args.items.now.items))) c.args.items.now.items c.loop-number.number (omega (arith, ap length all)) c.loop-number.invariant
 
 pub members_fault-returns-in-Some-2 : goal.members_fault-returns-in-Some-2
 members_fault-returns-in-Some-2 t c =

@@ -1,6 +1,7 @@
 use Rattle.std.proofs.Common.{◌≡◌, ◌++◌, map, Some, option_map, drop}
 use Rattle.serde_json.specs.View.{view, items_view}
-use Rattle.sc_schema_syntax.specs.Written.{elements, text_of, texts_of}
+use Rattle.sc_schema_syntax.specs.Forms.{elements}
+use Rattle.sc_schema_syntax.specs.Written.{text_of, texts_of}
 use Rattle.sc_schema_syntax.proofs.entries.texts_of.Given as goal
 
 abbrev pub invariant-loop-item : goal.invariant-loop-item

@@ -11,4 +11,4 @@ abbrev pub decreases-expanded_all : goal.decreases-expanded_all
 decreases-expanded_all l = 2 * goal.size-expanded_all l + 1
 
 abbrev pub invariant-expanded_all-loop-attribute : goal.invariant-expanded_all-loop-attribute
-invariant-expanded_all-loop-attribute l = l.fields ≡ fields_of (type_in l.table.entries) (take l.attribute-index l.attributes)
+invariant-expanded_all-loop-attribute l = l.fields ≡ fields_of l.kinds (type_in l.table.entries) (take l.attribute-index l.attributes)

@@ -6,4 +6,4 @@ use Rattle.sc_schema_types.proofs.expansion.meaning_of.Given as goal
 
 abbrev pub invariant-loop-name : goal.invariant-loop-name
 invariant-loop-name l =
-    fold (with_body (body_in l.bodies.entries) expanded) (type_in l.table.entries) (drop l.name-index l.order) ≡ meaning_by (body_in l.bodies.entries) l.order
+    fold (with_body (body_in l.bodies.entries) (expanded l.kinds)) (type_in l.table.entries) (drop l.name-index l.order) ≡ meaning_by l.kinds (body_in l.bodies.entries) l.order

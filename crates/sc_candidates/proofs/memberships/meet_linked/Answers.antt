@@ -1,0 +1,36 @@
+use Rattle.std.proofs.Common.{List, get_or, arith}
+use Rattle.sc_sorts.specs.declared.node.Node.{Node}
+use Rattle.sc_terms.specs.Trees.{Tree}
+use Rattle.sc_terms.specs.Tables.{tree}
+use Rattle.sc_closure_rules.proofs.MakingLaws.{puts_nothing}
+use Rattle.sc_closure_rules.proofs.MemberLaws.{read_at, within_at}
+use Rattle.sc_closure_rules.specs.Closure.{members_by, are_linked}
+use Rattle.sc_candidates.proofs.CrowdLoopLaws.{terms_next, terms_end}
+use Rattle.sc_candidates.proofs.memberships.meet_linked.Goals as goal
+
+pub loop-other-init : goal.loop-other-init
+loop-other-init c = puts_nothing _ _
+
+pub put_linked-requires-clause-other_in : goal.put_linked-requires-clause-other_in
+put_linked-requires-clause-other_in c =
+    let i = c.loop-other.other-index in
+    let sets = c.args.sets.now in
+    omega (arith, within_at _ sets c.requires.sets_in i (get_or sets i 0) c.loop-other-test.true (read_at sets i c.loop-other-test.true), c.loop-other.invariant.kept.longer)
+
+pub loop-other-preserved : goal.loop-other-preserved
+loop-other-preserved c =
+    let kept = c.loop-other.invariant.kept in
+    let i = c.loop-other.other-index in
+    let sets = c.args.sets.now in
+    let n = get_or sets i 0 in
+    let at = read_at sets i c.loop-other-test.true in
+    let n_stays = kept.same n (within_at _ sets c.requires.sets_in i n c.loop-other-test.true at) in
+    let set_stays = kept.same c.args.set c.requires.set_in in
+    let term_stays = kept.same c.args.term c.requires.term_in in
+    terms_next (λ (xs : List Node) (t : Tree). members_by (are_linked (tree xs c.args.set) t) (tree xs c.args.term) t) sets _ _ _ _ i _ _ n c.loop-other.invariant c.loop-other-test.true at
+    (λ j. members_by (are_linked (set_stays j) (n_stays j)) (term_stays j) (n_stays j)) c.in_ok-put_linked.ensures.ok
+
+pub returns-clause-ok : goal.returns-clause-ok
+returns-clause-ok c =
+    terms_end (λ (xs : List Node) (t : Tree). members_by (are_linked (tree xs c.args.set) t) (tree xs c.args.term) t) c.args.sets.now _ _ _ _ c.loop-other.other-index c.loop-other.invariant
+    (omega (arith, c.loop-other-test.false))

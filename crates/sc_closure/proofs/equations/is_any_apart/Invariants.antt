@@ -1,8 +1,0 @@
-use Rattle.std.proofs.Common.{◌≡◌, false, take}
-use Rattle.std.specs.List.{list_any}
-use Rattle.sc_terms.specs.Tables.{tree}
-use Rattle.sc_closure.specs.Following.{apart_from}
-use Rattle.sc_closure.proofs.equations.is_any_apart.Given as goal
-
-abbrev pub invariant-loop-member : goal.invariant-loop-member
-invariant-loop-member l = list_any (apart_from l.terms (tree l.terms l.term)) (take l.member-index l.members) ≡ false

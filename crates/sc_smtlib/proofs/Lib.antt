@@ -1,0 +1,3 @@
+mod MarkLaws
+mod KeptLaws
+mod FormLaws

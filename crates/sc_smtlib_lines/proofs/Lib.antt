@@ -1,0 +1,9 @@
+mod GainingLaws
+mod DepthLaws
+mod DatatypeLaws
+mod FunctionLaws
+mod PlaceLaws
+mod OrderLaws
+mod ChoiceLaws
+mod OneScriptLaws
+mod PutLaws

@@ -1,0 +1,16 @@
+use Rattle.std.proofs.Common.{◌≡◌, ◌++◌, length}
+use Rattle.sc_closure_rules.specs.Closure.{trees_in}
+use Rattle.sc_terms.specs.Tables.{node_parts, AreBelow}
+use Rattle.sc_smtlib_lines.specs.Gaining.{terms_of}
+use Rattle.sc_smtlib_lines.specs.Names.{places_of}
+use Rattle.sc_smtlib_lines.proofs.order.put_places.Given as goal
+
+abbrev pub invariant-loop-part : goal.invariant-loop-part
+invariant-loop-part l = record {
+  within : AreBelow (length l.fn.names.terms.now) l.rest;
+  listed : l.places ++ places_of (terms_of l.fn.names) (trees_in (node_parts l.fn.names.terms.now l.rest))
+      ≡ l.fn.places ++ places_of (terms_of l.fn.names) (trees_in (node_parts l.fn.names.terms.now l.fn.parts));
+}
+
+abbrev pub decreases-loop-part : goal.decreases-loop-part
+decreases-loop-part l = length l.rest

@@ -1,0 +1,5 @@
+pub mod SeenLaws
+pub mod SortTextLaws
+mod DefaultTextLaws
+mod LineLaws
+mod SetLaws

@@ -1,0 +1,7 @@
+use Rattle.std.proofs.Common.{◌≡◌, ◌++◌, drop}
+use Rattle.std.specs.List.{flat_map}
+use Rattle.sc_smtlib_terms.specs.Sets.{begun}
+use Rattle.sc_smtlib_terms.proofs.sets.put_begun.Given as goal
+
+abbrev pub invariant-loop-a : goal.invariant-loop-a
+invariant-loop-a l = l.out.items ++ flat_map begun (drop l.a-index l.members) ≡ l.fn.out.items ++ flat_map begun l.members

@@ -1,0 +1,9 @@
+pub mod Seen
+pub mod Sets
+pub mod Patterns
+pub mod Sorts
+pub mod Literals
+pub mod Defaults
+pub mod Calls
+pub mod Bodies
+pub mod Forms

@@ -1,0 +1,3 @@
+mod FrontLaws
+mod WordLaws
+mod CharacterLaws

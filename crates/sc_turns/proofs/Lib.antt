@@ -1,0 +1,2 @@
+mod TurningLaws
+pub mod OneOrderLaws
