@@ -1,14 +1,13 @@
 -- Checked policies have goals that closure takes.
-use Rattle.std.proofs.Common.{◌≡◌, inl, inr, ℕ, List, [], ◌∷◌, Bool, true, false, if◌then◌else◌, Option, Some, None, option_map, is_some, IsSome, Contains, refl, sym, subst}
+use Rattle.std.proofs.Common.{◌≡◌, inl, inr, ℕ, List, [], ◌∷◌, Option, Some, None, IsSome, Contains, refl, sym, subst}
 use Rattle.std.specs.Prelude.{IfSome}
 use Rattle.std.specs.List.{AllByRecursion}
 use Rattle.sc_lists.proofs.ListLaws.{all_of_elements, contains_first, contains_rest, contains_joined}
 use Rattle.sc_names.specs.declared.uid.Uid.{Uid}
 use Rattle.sc_ast.specs.declared.policy.Policy.{Policy}
 use Rattle.sc_ast.specs.Literals.{policy_uids, literals}
-use Rattle.sc_schema.specs.declared.declarations.EntityType.{EntityType}
 use Rattle.sc_schema.specs.declared.declarations.Env.{Env}
-use Rattle.sc_schema.specs.Declarations.{Declarations, environments, is_action_type, action, entity_type}
+use Rattle.sc_schema.specs.Declarations.{Declarations, environments}
 use Rattle.sc_schema.specs.Lawful.{IsLawful}
 use Rattle.sc_world.specs.Named.{IsDeclared}
 use Rattle.sc_eval.specs.Written.{HaveProperConstants}
@@ -21,22 +20,13 @@ use Rattle.sc_closure_rules.specs.Goals.{IsGoal}
 use Rattle.sc_symeval_laws.specs.Written.{IsSetting, IsWritten}
 use Rattle.sc_goal.specs.Goals.{goal_term}
 use Rattle.sc_goal.specs.Queries.{Asked, IsAsked, second}
+use Rattle.sc_goal_laws.proofs.WrittenLaws.{declared_passes}
 use Rattle.sc_question.specs.declared.question.Question.{Question}
 use Rattle.sc_goal_tests.specs.Checked.{IsChecked, IsGoalAt}
 
 pub none_checked : (s : Declarations) → IsChecked s []
 unfolding fault_from
 none_checked s = record { types = refl; names = refl }
-
--- ---- what is declared passes the test
-
-shaped : (o : Option EntityType) → IsSome (option_map (λ (t : EntityType). t.shape) o) → is_some o ≡ true
-shaped None h = absurd cc
-shaped (Some t) h = refl
-
-declared_by : (s : Declarations) (u : Uid) (b : Bool) → is_action_type s u.type_name ≡ b → IsDeclared s u → (if b then is_some (action s u) else is_some (entity_type s u.type_name)) ≡ true
-declared_by s u true e h = h.as_action e
-declared_by s u false e h = shaped (entity_type s u.type_name) (rw e at h.of_type)
 
 -- ---- what checked policies write
 
@@ -58,7 +48,7 @@ module _ (s : Declarations) (env : Env) (q : Asked) (lawful : IsLawful s) (here 
   setting = record {
     lawful = lawful;
     environment = here;
-    declared = λ u among. declared_by s u (is_action_type s u.type_name) refl (elim ((asked.written u).0 among) [
+    declared = λ u among. declared_passes s u (elim ((asked.written u).0 among) [
       | inl left ↦ declared q.first u first.names left
       | inr right ↦ declared (second q) u later.names right
     ]);
