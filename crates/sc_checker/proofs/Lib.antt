@@ -1,5 +1,5 @@
 mod ListedLaws
-mod Soundness
+pub mod Soundness
 mod ProgressLaws
 pub mod VerdictLaws
 pub mod StreamLaws

@@ -98,6 +98,10 @@ step-holds : (v : ℕ → Bool) (cs : List Clause) (c : Clause) (hints : List �
 step-holds v cs c hints true h e is = refl
 step-holds v cs c hints false h e is = absurd (refutes-sound v cs (negated c) hints h (negated-true v c is) e)
 
+-- a clause that hints show is true where those before it are
+pub shown : (v : ℕ → Bool) (cs : List Clause) (c : Clause) (hints : List ℕ) → AllHold v cs → refutes cs (negated c) hints ≡ true → clause_holds v c ≡ true
+shown v cs c hints h e = step-holds v cs c hints (clause_holds v c) h e refl
+
 shown-holds : (v : ℕ → Bool) (cs : List Clause) (d c : Clause) (hints : List ℕ) (a b : Bool) → AllHold v cs → refutes cs (negated d) hints ≡ b → cond (a && b) (Ok d) (Err NotRefuted) ≡ Ok c → clause_holds v c ≡ true
 shown-holds v cs d c hints true true h e is = let same : d ≡ c = cc in subst (λ (x : Clause). clause_holds v x ≡ true) same (step-holds v cs d hints _ h e refl)
 shown-holds v cs d c hints true false h e is = absurd cc

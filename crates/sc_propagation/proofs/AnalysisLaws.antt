@@ -1,25 +1,27 @@
 -- What conflict analysis keeps at each step, and what it ends with.
-use Rattle.std.proofs.Common.{◌≡◌, ◌≢◌, ◌⊎◌, inl, inr, ⊎_elim, ℕ, ◌+◌, ◌-◌, ◌^◌, ◌<◌, ◌≤◌, List, [], ◌∷◌, ◌++◌, Bool, true, false, length, get_or, refl, sym, ap, ◌∙◌, subst, true≢false, arith, get_or-set_same, get_or-set_other, map, reverse, take, replicate}
+use Rattle.std.proofs.Common.{◌≡◌, ◌≢◌, ◌⊎◌, inl, inr, ⊎_elim, ℕ, ◌+◌, ◌-◌, ◌^◌, ◌<◌, ◌≤◌, List, [], ◌∷◌, ◌++◌, Bool, true, false, length, get_or, refl, sym, ap, ◌∙◌, subst, true≢false, arith, get_or-set_same, get_or-set_other, reverse, take, replicate}
 use Rattle.std.specs.List.{Contains}
-use Rattle.std.proofs.lemmas.List.{get_or_default, reverse-append, take_more, length-map, length-replicate}
-use Rattle.std.proofs.Math.ListN.{set, length-set, get_or-eq_default, get_or-map}
+use Rattle.std.proofs.lemmas.List.{get_or_default, reverse-append, take_more, length-replicate}
+use Rattle.std.proofs.Math.ListN.{set, length-set, get_or-eq_default}
 use Rattle.std.proofs.lemmas.List.Elements.{Contains-append_left, Contains-push, Contains-push_cases}
-use Rattle.std.proofs.lemmas.Bool.{false_from_ne_true, cases_eq, cases_lt}
+use Rattle.std.proofs.lemmas.Bool.{false_from_ne_true, cases_eq, cases_lt, or_cases, or_left, or_right}
 use Rattle.sc_laws.proofs.BoolLaws.{and_first}
 use Rattle.sc_lists.proofs.ListLaws.{contains_nothing, contains_first, all_the_same}
-use Rattle.sc_clauses.specs.Clauses.{negation, Clause}
+use Rattle.sc_clauses.specs.Clauses.{negation, lit_eq, is_in, Clause}
 use Rattle.sc_clauses.specs.declared.lit.Lit.{Lit}
 use Rattle.sc_propagation.proofs.CellLaws.{consistent, before-more, at-before, before-at, at-not-before}
 use Rattle.sc_propagation.proofs.NewnessLaws.{new-by}
 use Rattle.sc_propagation.specs.Analyses.{HaveSame, IsMet, RefutesMet, MeetsMore, IsCollected, AreMet, MayBeMet, NoneMet}
 use Rattle.sc_propagation.specs.Propagation.{IsNew}
 use Rattle.sc_propagation.specs.Readings.{AreFalse}
-use Rattle.sc_propagation.specs.Steps.{At, IsNumbered, IsNumber, Refutes, conflict, one_left}
+use Rattle.sc_propagation.specs.Steps.{At, IsNumbered, Shows}
 use Rattle.sc_propagation.specs.Trails.{true_before, set_before, cell_of, HasPlace, set_at, IsReason, Agree, IsTrail, AreQuiet}
 use Rattle.sc_propagation.specs.declared.cell.Cell.{Cell}
 use Rattle.sc_propagation.specs.declared.cell.Cell.TheVariants.{Free, Decided, Implied}
-use Rattle.sc_clauses.proofs.LitLaws.{negation_twice, bool_eq-true}
-use Rattle.sc_propagation.proofs.LitLaws.{tail-has, cons-cases}
+use Rattle.sc_clauses.proofs.LitLaws.{negation_twice, bool_eq-true, lit_eq-true, lit_eq-itself}
+use Rattle.sc_propagation.proofs.LitLaws.{tail-has, cons-cases, found, has-in}
+use Rattle.sc_propagation.proofs.HintLaws.{refutes-conflict, refutes-unit}
+use Rattle.sc_refutations.specs.Refutations.{negated, with_lit}
 use Rattle.sc_propagation.proofs.WatchedLitLaws.{lit-of, lit-cases}
 
 -- a literal that is true before place i + 1 is the one at i, or is true before i
@@ -39,26 +41,10 @@ before-cases cells trail h i l m at b =
 numbered : (cs : List Clause) (k : ℕ) (c : Clause) → At cs k c → IsNumbered cs (k + 1) c
 numbered cs k c at = let e : k ≡ k + 1 - 1 = omega arith in (omega arith, subst (λ (i : ℕ). At cs i c) e at)
 
--- each hint is the number of a clause
-pub hint-within : (cs : List Clause) (known : List Lit) (hints : List ℕ) → Refutes cs known hints → (h : ℕ) → Contains hints h → (0 < h) × (h ≤ length cs)
-hint-within cs known hints (conflict _ h c (some, at) all) g has =
-    let lt : h - 1 < length cs = at.0 in
-    ⊎_elim (λ (e : h ≡ g). (omega arith, omega arith)) (λ (old : Contains [] g). absurd (contains_nothing g old)) (cons-cases h g [] has)
-hint-within cs known hints (one_left _ h hs c l (some, at) cl apart others rest) g has =
-    let lt : h - 1 < length cs = at.0 in
-    ⊎_elim (λ (e : h ≡ g). (omega arith, omega arith)) (λ (old : Contains hs g). hint-within cs _ hs rest g old) (cons-cases h g hs has)
-
-pub some-hint : (cs : List Clause) (known : List Lit) (hints : List ℕ) → Refutes cs known hints → 0 < length hints
-some-hint cs known hints (conflict _ h c at all) = omega arith
-some-hint cs known hints (one_left _ h hs c l at cl apart others rest) = omega arith
-
-pub hint-number : (cs : List Clause) (known : List Lit) (hints : List ℕ) → Refutes cs known hints → length cs < 10 ^ 18 → (h : ℕ) → Contains hints h → IsNumber h
-hint-number cs known hints shows few h has = let w = hint-within cs known hints shows h has in let le : h ≤ length cs = w.1 in (w.0, omega arith)
-
 -- the analysis begins with the falsified clause
 pub refutes-first : (cs : List Clause) (cells : List Cell) (p i : ℕ) (met : List Bool) (c : Clause) → At cs i c → AreFalse cells p c → ((m : Lit) → Contains c m → IsMet met m)
     → RefutesMet cs cells p p met ((i + 1) ∷ [])
-refutes-first cs cells p i met c at false' is_met known has only = conflict known (i + 1) c (numbered cs i c at) (λ m cm. has (negation m) (false' m cm) (is_met m cm))
+refutes-first cs cells p i met c at false' is_met known has only = refutes-conflict cs known (i + 1) c (numbered cs i c at) (λ m cm. has (negation m) (false' m cm) (is_met m cm))
 
 -- it passes over a literal that wasn't met
 pub refutes-skip : (cs : List Clause) (cells : List Cell) (trail : List Lit) (p i : ℕ) (met : List Bool) (hints : List ℕ) (l : Lit) → Agree cells trail → At trail i l → get_or met l.atom false ≡ false
@@ -80,20 +66,20 @@ refutes-resolve cs cells trail p i r met after hints l agree at lt why grow is_m
     let is : HasPlace cells l i = subst (λ (w : Lit). HasPlace cells w i) at.1 (agree.placed i l at.0) in
     let here : true_before cells p l ≡ true = at-before cells l i p is lt in
     rw (reverse-append)
-    (one_left known (r + 1) (reverse hints) why.clause l (numbered cs r why.clause why.at) why.has
-    (λ known'. true≢false (sym (only (negation l) known') ∙ consistent cells p l here))
+    (refutes-unit cs known (r + 1) (reverse hints) why.clause l (numbered cs r why.clause why.at) why.has
+    (false_from_ne_true _ (λ known'. true≢false (sym (only (negation l) known') ∙ consistent cells p l here)))
     (λ m cm ne. has (negation m) (why.others m cm ne) (is_met m cm))
-    (h (l ∷ known)
+    (h (with_lit known l)
     (λ m b is_met.
     ⊎_elim
-    (λ (e : l ≡ m). subst (λ (w : Lit). Contains (l ∷ known) w) e (contains_first l known))
-    (λ (b' : true_before cells i m ≡ true). tail-has l m known (has m b' (grow m is_met)))
+    (λ (e : l ≡ m). or_left (lit_eq m l) (known m) (subst (λ (w : Lit). lit_eq w l ≡ true) e (lit_eq-itself l)))
+    (λ (b' : true_before cells i m ≡ true). or_right (lit_eq m l) (known m) (has m b' (grow m is_met)))
     (before-cases cells trail agree i l m at b))
     (λ m known'.
     ⊎_elim
-    (λ (e : l ≡ m). subst (λ (w : Lit). true_before cells p w ≡ true) e here)
-    (λ (k : Contains known m). only m k)
-    (cons-cases l m known known'))))
+    (λ (e : lit_eq m l ≡ true). subst (λ (w : Lit). true_before cells p w ≡ true) (sym (lit_eq-true m l e)) here)
+    (λ (k : known m ≡ true). only m k)
+    (or_cases (lit_eq m l) (known m) known'))))
 
 one-sign : (c : Cell) (p q : ℕ) (s t : Bool) → set_before c p s ≡ true → set_before c q t ≡ true → s ≡ t
 one-sign Free p q s t e f = absurd cc
@@ -201,22 +187,8 @@ module _ (n : ℕ) (cs : List Clause) (cells : List Cell) (trail : List Lit) (le
 pub read-met : (met : List Bool) (m : Lit) (r : Bool) → m.atom < length met → r ≡ get_or met m.atom r → get_or met m.atom false ≡ r
 read-met met m r lt e = get_or_default met m.atom false r lt ∙ sym e
 
-get_or_map_at : (c : List Lit) (k : ℕ) (x : Lit) → k < length c → get_or (map negation c) k (negation x) ≡ negation (get_or c k x)
-get_or_map_at c k x lt = get_or-map negation c k x
-
-twice : (c : List Lit) → map negation (map negation c) ≡ c
-twice [] = refl
-twice (x ∷ xs) = cc (negation_twice x, twice xs)
-
--- what isn't true later wasn't true earlier
 pub not-lower : (cells : List Cell) (first p : ℕ) (m : Lit) → true_before cells p m ≡ false → first ≤ p → true_before cells first m ≡ false
 not-lower cells first p m f le = false_from_ne_true _ (λ e. true≢false (sym (before-more cells first p m le e) ∙ f))
-
-has-neg : (c : List Lit) (x : Lit) → Contains c x → Contains (map negation c) (negation x)
-has-neg c x (k, lt, e) = (k, let l : length (map negation c) ≡ length c = simp length-map in omega arith, get_or_map_at c k x lt ∙ ap negation e)
-
-from-neg : (c : List Lit) (m : Lit) → Contains (map negation c) m → Contains c (negation m)
-from-neg c m h = subst (λ (d : List Lit). Contains d (negation m)) (twice c) (has-neg (map negation c) m h)
 
 -- where one met literal of the level is left: the clause of its negation and of what was met before the level
 module _ (cs : List Clause) (cells : List Cell) (trail : List Lit) (agree : Agree cells trail) (first i : ℕ) (met : List Bool) (lower : List Lit) (hints : List ℕ) (uip : Lit) (n : ℕ)
@@ -230,16 +202,16 @@ module _ (cs : List Clause) (cells : List Cell) (trail : List Lit) (agree : Agre
   pub uip-here : true_before cells first uip ≡ false
   uip-here = at-not-before cells uip i first uip-at from
 
-  pub refutes-final : Refutes cs (map negation (negation uip ∷ lower)) (reverse hints)
+  pub refutes-final : Shows cs (negation uip ∷ lower) (reverse hints)
   refutes-final =
       let C = negation uip ∷ lower in
       let in_range : i < length trail = at.0 in
       let low = λ (m : Lit) (b : true_before cells first m ≡ true) (is_met : IsMet met m).
-      subst (λ (w : Lit). Contains (map negation C) w) (negation_twice m) (has-neg C (negation m) (tail-has (negation uip) (negation m) lower (collected.covers m b is_met))) in
-      h (map negation C)
+      has-in C (negation m) (tail-has (negation uip) (negation m) lower (collected.covers m b is_met)) in
+      h (negated C)
       (λ m b is_met.
       ⊎_elim
-      (λ (e : uip ≡ m). subst (λ (w : Lit). Contains (map negation C) w) (negation_twice uip ∙ e) (has-neg C (negation uip) (contains_first (negation uip) lower)))
+      (λ (e : uip ≡ m). subst (λ (w : Lit). is_in C (negation w) ≡ true) e (has-in C (negation uip) (contains_first (negation uip) lower)))
       (λ (b' : true_before cells i m ≡ true).
       let w = before-at cells m i b' in
       ⊎_elim
@@ -254,7 +226,7 @@ module _ (cs : List Clause) (cells : List Cell) (trail : List Lit) (agree : Agre
       (λ (e : negation uip ≡ negation m). subst (λ (w : Lit). true_before cells (length trail) w ≡ true) (sym (negation_twice uip) ∙ ap negation e ∙ negation_twice m) uip-true)
       (λ (old : Contains lower (negation m)).
       before-more cells first (length trail) m (omega arith) (subst (λ (w : Lit). true_before cells first w ≡ true) (negation_twice m) (collected.are_lower (negation m) old)))
-      (cons-cases (negation uip) (negation m) lower (from-neg C m has)))
+      (cons-cases (negation uip) (negation m) lower (found C (negation m) has)))
 
   pub learned-new : AreQuiet (true_before cells first) cs → IsNew cs (negation uip ∷ lower)
   learned-new quiet = (
@@ -273,6 +245,6 @@ collected-fresh n cells first met lower e f = record {
 }
 
 -- where no place is left nothing was assumed
-pub refutes-none : (cs : List Clause) (cells : List Cell) (p i : ℕ) (met : List Bool) (hints : List ℕ) → i ≤ 0 → RefutesMet cs cells p i met hints → Refutes cs [] (reverse hints)
+pub refutes-none : (cs : List Clause) (cells : List Cell) (p i : ℕ) (met : List Bool) (hints : List ℕ) → i ≤ 0 → RefutesMet cs cells p i met hints → Shows cs [] (reverse hints)
 refutes-none cs cells p i met hints le h =
-    h [] (λ m b is_met. let w = before-at cells m i b in let lt : w.0 < i = w.1 in absurd (omega arith)) (λ m has. absurd (contains_nothing m has))
+    h (negated []) (λ m b is_met. let w = before-at cells m i b in let lt : w.0 < i = w.1 in absurd (omega arith)) (λ m has. absurd cc)

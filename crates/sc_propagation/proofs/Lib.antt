@@ -13,6 +13,7 @@ pub mod TrailLaws
 pub mod ReadingLaws
 pub mod WatchingLaws
 pub mod VisitLaws
+mod HintLaws
 pub mod AnalysisLaws
 mod ExchangeLaws
 pub mod RoomLaws

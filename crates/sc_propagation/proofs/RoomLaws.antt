@@ -1,20 +1,22 @@
 -- A new clause, and the trail back at the levels that it leaves.
-use Rattle.std.proofs.Common.{◌≡◌, inr, ⊎_elim, ℕ, ◌+◌, ◌-◌, ◌^◌, ◌<◌, ◌≤◌, List, [], ◌∷◌, ◌++◌, Bool, true, length, get_or, map, sym, ap, ◌∙◌, subst, true≢false, arith, take, Option, Some, None}
+use Rattle.std.proofs.Common.{◌≡◌, inr, ⊎_elim, ℕ, ◌+◌, ◌-◌, ◌^◌, ◌<◌, ◌≤◌, List, [], ◌∷◌, ◌++◌, Bool, true, length, get_or, sym, ap, ◌∙◌, subst, true≢false, arith, take, Option, Some, None}
 use Rattle.std.specs.List.{Contains, All}
 use Rattle.std.proofs.lemmas.List.{length-append, get_or_default, get_or-take, length-take-le}
 use Rattle.std.proofs.lemmas.List.Elements.{Contains-push_cases, Contains-get_or}
 use Rattle.sc_lists.proofs.ListLaws.{contains_nothing}
 use Rattle.sc_clauses.specs.Clauses.{negation, Clause}
+use Rattle.sc_refutations.specs.Refutations.{negated}
 use Rattle.sc_clauses.specs.declared.lit.Lit.{Lit}
 use Rattle.sc_clauses.specs.declared.step.Learned as step
-use Rattle.sc_propagation.proofs.AnalysisLaws.{not-lower, trail-in-cells, some-hint, hint-number}
+use Rattle.sc_propagation.proofs.AnalysisLaws.{not-lower, trail-in-cells}
+use Rattle.sc_propagation.proofs.HintLaws.{some-hint, hint-number}
 use Rattle.sc_propagation.proofs.CellLaws.{consistent, before-more, before-at}
 use Rattle.sc_propagation.proofs.LitLaws.{cons-cases}
 use Rattle.sc_propagation.proofs.TrailLaws.{trail-learn}
 use Rattle.sc_propagation.proofs.WatchingLaws.{added-listed, at-cases, open-quiet}
 use Rattle.sc_propagation.proofs.WatchLaws.{added-below, added-last}
 use Rattle.sc_propagation.specs.Analyses.{IsHighest, IsResolvent}
-use Rattle.sc_propagation.specs.Steps.{At, IsClause, IsShown, Refutes}
+use Rattle.sc_propagation.specs.Steps.{At, IsClause, IsShown, Shows}
 use Rattle.sc_propagation.specs.Trails.{InCells, AreInCells, AllInCells, AreLevels, HoldsTrail, true_before, HasPlace, set_at, Agree, IsTrail}
 use Rattle.sc_propagation.specs.Rooms.{IsOpenPair, IsRoom}
 use Rattle.sc_propagation.specs.Visits.{AreAlive, AreAliveBut, IsWellWatched}
@@ -84,13 +86,13 @@ module _ (n : ℕ) (cs : List Clause) (cells : List Cell) (trail : List Lit) (le
       let size = sound.sized in
       record {
         is_clause = subst (λ (c : Clause). IsClause atoms c) (sym clause) (learned-clause atoms e);
-        refutes = subst (λ (c : Clause). Refutes cs (map negation c) s.hints) (sym clause) (subst (λ (hs : List ℕ). Refutes cs (map negation (negation uip ∷ lower)) hs) (sym same) learned.refutes);
-        some = subst (λ (hs : List ℕ). 0 < length hs) (sym same) (some-hint cs _ hints learned.refutes);
+        shows = subst (λ (c : Clause). Shows cs c s.hints) (sym clause) (subst (λ (hs : List ℕ). Shows cs (negation uip ∷ lower) hs) (sym same) learned.shows);
+        some = subst (λ (hs : List ℕ). 0 < length hs) (sym same) (some-hint cs _ hints learned.shows);
         lit_numbers = λ l has.
             let w = learned-in-cells l (subst (λ (c : Clause). Contains c l) clause has) in
             let lt : l.atom < length cells = w.1 in
             (w.0, omega arith);
-        hint_numbers = λ h has. hint-number cs _ hints learned.refutes few_clauses h (subst (λ (hs : List ℕ). Contains hs h) same has);
+        hint_numbers = λ h has. hint-number cs _ hints learned.shows few_clauses h (subst (λ (hs : List ℕ). Contains hs h) same has);
       }
 
 -- what holds of each element, by its place
@@ -195,11 +197,11 @@ in-cells-more n cs C h is c has l cl =
     ⊎_elim (λ (old : Contains cs c). h c old l cl) (λ (e : C ≡ c). is l (subst (λ (d : Clause). Contains d l) (sym e) cl)) (Contains-push_cases cs C c has)
 
 -- the step that logs the empty clause
-pub refuted-shown : (cs : List Clause) (hints : List ℕ) (s : step.Learned) → Refutes cs [] hints → length cs < 10 ^ 18 → s.clause ≡ [] → s.hints ≡ hints → (atoms : ℕ) → IsShown atoms cs s
+pub refuted-shown : (cs : List Clause) (hints : List ℕ) (s : step.Learned) → Shows cs [] hints → length cs < 10 ^ 18 → s.clause ≡ [] → s.hints ≡ hints → (atoms : ℕ) → IsShown atoms cs s
 refuted-shown cs hints s shows few clause same atoms = record {
   is_clause = subst (λ (c : Clause). IsClause atoms c) (sym clause) (λ l has. absurd (contains_nothing l has));
-  refutes = subst (λ (c : Clause). Refutes cs (map negation c) s.hints) (sym clause) (subst (λ (hs : List ℕ). Refutes cs [] hs) (sym same) shows);
-  some = subst (λ (hs : List ℕ). 0 < length hs) (sym same) (some-hint cs [] hints shows);
+  shows = subst (λ (c : Clause). Shows cs c s.hints) (sym clause) (subst (λ (hs : List ℕ). Shows cs [] hs) (sym same) shows);
+  some = subst (λ (hs : List ℕ). 0 < length hs) (sym same) (some-hint cs (negated []) hints shows);
   lit_numbers = λ l has. absurd (contains_nothing l (subst (λ (c : Clause). Contains c l) clause has));
-  hint_numbers = λ h has. hint-number cs [] hints shows few h (subst (λ (hs : List ℕ). Contains hs h) same has);
+  hint_numbers = λ h has. hint-number cs (negated []) hints shows few h (subst (λ (hs : List ℕ). Contains hs h) same has);
 }

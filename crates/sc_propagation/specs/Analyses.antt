@@ -5,7 +5,8 @@ use Rattle.sc_clauses.specs.declared.lit.Lit.{Lit}
 use Rattle.sc_clauses.specs.Clauses.{Clause, negation}
 use Rattle.sc_propagation.specs.declared.cell.Cell.{Cell}
 use Rattle.sc_propagation.specs.Propagation.{IsNew}
-use Rattle.sc_propagation.specs.Steps.{Refutes}
+use Rattle.sc_refutations.specs.Refutations.{LitSet, refutes}
+use Rattle.sc_propagation.specs.Steps.{Shows}
 use Rattle.sc_propagation.specs.Trails.{true_before}
 
 -- the literal's atom was met
@@ -15,9 +16,9 @@ IsMet met m = slice_index_or met m.atom false ≡ true
 -- The hints refute any set of true literals that holds the met ones which are true before place i.
 abbrev pub RefutesMet : List Clause → List Cell → ℕ → ℕ → List Bool → List ℕ → Type 0
 RefutesMet clauses cells p i met hints =
-    (known : List Lit) → ((m : Lit) → true_before cells i m ≡ true → IsMet met m → Contains known m)
-    → ((m : Lit) → Contains known m → true_before cells p m ≡ true)
-    → Refutes clauses known (reverse hints)
+    (known : LitSet) → ((m : Lit) → true_before cells i m ≡ true → IsMet met m → known m ≡ true)
+    → ((m : Lit) → known m ≡ true → true_before cells p m ≡ true)
+    → refutes clauses known (reverse hints) ≡ true
 
 -- the learned clause has the negation of each met literal that was true before the level
 abbrev pub Covers : List Cell → ℕ → List Bool → List Lit → Type 0
@@ -58,7 +59,7 @@ IsHighest levels first = (Contains levels first) × ((k : ℕ) → Contains leve
 -- The learned clause: literals that were false before the level, and the negation of one that became true in it.
 pub record IsResolvent (clauses : List Clause) (cells : List Cell) (p first : ℕ) (lower : List Lit) (uip : Lit)
     (hints : List ℕ) : Type 0 where
-  pub refutes : Refutes clauses (map negation (negation uip ∷ lower)) hints
+  pub shows : Shows clauses (negation uip ∷ lower) hints
   pub is_new : IsNew clauses (negation uip ∷ lower)
   pub are_lower : AreLower cells first lower
   pub uip_true : true_before cells p uip ≡ true

@@ -1,5 +1,5 @@
 -- Which steps are lawful, and which are units.
-use Rattle.std.specs.Prelude.{◌≡◌, ◌≢◌, ◌-◌, ◌^◌, ◌<◌, ◌≤◌, ◌++◌, ℕ, List, [], ◌∷◌, length, map}
+use Rattle.std.specs.Prelude.{◌≡◌, ◌-◌, ◌^◌, ◌<◌, ◌≤◌, ◌++◌, ℕ, List, length, map, true}
 use Rattle.std.specs.List.{Contains, slice_index_or}
 use Rattle.sc_clauses.specs.declared.lit.Lit.{Lit}
 use Rattle.sc_clauses.specs.declared.step.Instance as instance
@@ -7,6 +7,7 @@ use Rattle.sc_clauses.specs.declared.step.Learned as learned
 use Rattle.sc_clauses.specs.declared.step.Step.{Step}
 use Rattle.sc_clauses.specs.declared.step.Step.TheVariants.{Instance, Learned}
 use Rattle.sc_clauses.specs.Clauses.{Clause, negation}
+use Rattle.sc_refutations.specs.Refutations.{negated, refutes}
 
 -- x stands at place k
 abbrev pub At : {X : Type 0} → List X → ℕ → X → Type 0
@@ -27,24 +28,18 @@ AreListed atoms c = (l : Lit) → Contains c l → IsListed atoms l
 abbrev pub IsClause : ℕ → Clause → Type 0
 IsClause atoms c = (l : Lit) → Contains c l → IsListed atoms l × ¬ Contains c (negation l)
 
--- Reverse unit propagation: where some literals are true, each hint in turn names a clause that is false but for one
--- literal, which is true from then on; the last one is false as a whole.
-pub data Refutes (clauses : List Clause) : List Lit → List ℕ → Type 0 where
-  conflict : (known : List Lit) (h : ℕ) (c : Clause) → IsNumbered clauses h c
-      → ((m : Lit) → Contains c m → Contains known (negation m)) → Refutes clauses known (h ∷ [])
-  one_left : (known : List Lit) (h : ℕ) (hints : List ℕ) (c : Clause) (l : Lit) → IsNumbered clauses h c
-      → Contains c l → ¬ Contains known (negation l)
-      → ((m : Lit) → Contains c m → m ≢ l → Contains known (negation m)) → Refutes clauses (l ∷ known) hints
-      → Refutes clauses known (h ∷ hints)
+-- the hints show the clause by reverse unit propagation: they refute the negations of its literals
+abbrev pub Shows : List Clause → Clause → List ℕ → Type 0
+Shows clauses c hints = refutes clauses (negated c) hints ≡ true
 
 -- a number other than 0, of at most 18 digits
 abbrev pub IsNumber : ℕ → Type 0
 IsNumber n = (0 < n) × (n < 10 ^ 18)
 
--- the hints show the clause: they refute the negations of its literals
+-- a clause that its hints show, all of it written in numbers
 pub record IsShown (atoms : ℕ) (clauses : List Clause) (s : learned.Learned) : Type 0 where
   pub is_clause : IsClause atoms s.clause
-  pub refutes : Refutes clauses (map negation s.clause) s.hints
+  pub shows : Shows clauses s.clause s.hints
   pub some : 0 < length s.hints
   pub lit_numbers : (l : Lit) → Contains s.clause l → IsNumber l.atom
   pub hint_numbers : (h : ℕ) → Contains s.hints h → IsNumber h

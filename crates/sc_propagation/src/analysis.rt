@@ -7,7 +7,7 @@ ghost use Rattle.sc_clauses.specs.declared.lit.Lit.{Lit};
 ghost use Rattle.sc_refutations.specs.Arenas.{lit_of};
 ghost use Rattle.sc_propagation.specs.Analyses.{HaveSame, IsMet, RefutesMet, IsCollected, MeetsMore, MayBeMet, AreMet, NoneMet, IsHighest, IsResolvent};
 ghost use Rattle.sc_propagation.specs.Readings.{IsFalsified};
-ghost use Rattle.sc_propagation.specs.Steps.{Refutes};
+ghost use Rattle.sc_propagation.specs.Steps.{Shows};
 ghost use Rattle.sc_propagation.specs.Trails.{Agree, HoldsTrail, AllInCells, AreInCells, IsReason, true_before};
 
 use crate::cell::Cell;
@@ -347,7 +347,7 @@ impl Trail {
         requires trail { HoldsTrail (length self.now.cells.items) clauses.now self.now }
         requires falsified { IsFalsified clauses.now self.now.cells.items (length self.now.lits.items) conflict }
         requires undecided { self.now.levels.items ≡ [] }
-        ensures { IfOk result (λ hints. Refutes clauses.now [] hints.items) }
+        ensures { IfOk result (λ hints. Shows clauses.now [] hints.items) }
     {
         self.begin(clauses, analysis, conflict, 0)?;
         let mut i = self.lits.len();

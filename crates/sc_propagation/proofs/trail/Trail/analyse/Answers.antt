@@ -1,11 +1,11 @@
-use Rattle.std.proofs.Common.{◌≡◌, ℕ, List, ◌∷◌, length, get_or, subst, sym, ◌∙◌, map, Vec, Global}
+use Rattle.std.proofs.Common.{◌≡◌, ℕ, List, ◌∷◌, length, get_or, subst, sym, ◌∙◌, Vec, Global}
 use Rattle.std.proofs.lemmas.List.{get_or_default}
 use Rattle.sc_clauses.specs.Clauses.{negation}
 use Rattle.sc_clauses.specs.declared.lit.Lit.{Lit}
 use Rattle.sc_propagation.proofs.AnalysisLaws.{refutes-final, learned-new, uip-true, uip-here}
 use Rattle.sc_propagation.proofs.trail.Trail.analyse.Goals as goal
 use Rattle.sc_propagation.specs.Analyses.{IsResolvent}
-use Rattle.sc_propagation.specs.Steps.{At, Refutes}
+use Rattle.sc_propagation.specs.Steps.{At, Shows}
 use Rattle.sc_propagation.specs.Trails.{AreQuiet, true_before}
 
 pub returns-clause-resolvent : goal.returns-clause-resolvent
@@ -28,7 +28,7 @@ returns-clause-resolvent c =
     let is : get_or c.args.self.now.levels.items k 0 ≡ first = get_or_default c.args.self.now.levels.items k 0 first highest.1 ∙ highest.2 in
     let quiet : AreQuiet (true_before cells first) cs = subst (λ (q : ℕ). AreQuiet (true_before cells q) cs) is (sound.quiet k highest.1) in
     let found : IsResolvent cs cells (length trail) first lower uip c.reverse.new.self.items = record {
-      refutes = subst (λ (hs : List ℕ). Refutes cs (map negation (negation uip ∷ lower)) hs) (sym c.reverse.ensures.items)
+      shows = subst (λ (hs : List ℕ). Shows cs (negation uip ∷ lower) hs) (sym c.reverse.ensures.items)
           (refutes-final cs cells trail sound.agree first i met lower hints uip n at walked.from walked.collected walked.none walked.refutes);
       is_new = learned-new cs cells trail sound.agree first i met lower hints uip n at walked.from walked.collected walked.none walked.refutes quiet;
       are_lower = walked.collected.are_lower;

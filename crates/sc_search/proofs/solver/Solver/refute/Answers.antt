@@ -1,13 +1,13 @@
 use Rattle.std.proofs.Common.{[]}
 use Rattle.sc_propagation.proofs.RoomLaws.{refuted-shown}
 use Rattle.sc_search.proofs.solver.Solver.refute.Goals as goal
-use Rattle.sc_propagation.specs.Steps.{Refutes}
+use Rattle.sc_propagation.specs.Steps.{Shows}
 
 pub returns : goal.returns
 returns c =
     let cs = c.args.self.now.clauses in
     let hints = c.in_ok-hints.hints.items in
-    let shows : Refutes cs [] hints = c.in_ok-hints.ensures in
+    let shows : Shows cs [] hints = c.in_ok-hints.ensures in
     record {
       step = record { clause = c.new.result; hints = c.from_vec.result };
       is_empty = c.new.ensures;
